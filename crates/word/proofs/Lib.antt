@@ -1,0 +1,6 @@
+-- Laws of the frame word, for the proofs here and in the crates above.
+pub mod Place
+pub mod Parity
+pub mod Fields
+pub mod Table
+pub mod Match

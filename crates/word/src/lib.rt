@@ -1,0 +1,89 @@
+// The frame word: its fields, its parity, a word from its fields, and when a boiler's word answers a question.
+pub mod bytes;
+
+ghost use mathlib.Core.Path.{_≡_};
+ghost use Rattle.word.specs.Frame.{evenOf, typeOf, spareOf, idOf, valueOf, builtOf, suitsOf, matchesOf};
+
+// A frame on its way through the box. It holds the word alone; what else a frame carries will stand here.
+pub struct Frame {
+    pub word: u32,
+}
+
+// A word made from its fields, or the number of the refusal.
+pub enum Built {
+    Word(u32),
+    Refused(u8),
+}
+
+pub fn even(w: u32) -> bool
+    ensures { λ r. ⌜ r ≡ evenOf w ⌝ }
+{
+    u32::count_ones(w) % 2 == 0
+}
+
+pub fn type_of(w: u32) -> u8
+    ensures { λ r. ⌜ r ≡ typeOf w ⌝ }
+{
+    (w / 0x1000_0000 % 8) as u8
+}
+
+pub fn spare_of(w: u32) -> u8
+    ensures { λ r. ⌜ r ≡ spareOf w ⌝ }
+{
+    (w / 0x100_0000 % 16) as u8
+}
+
+pub fn id_of(w: u32) -> u8
+    ensures { λ r. ⌜ r ≡ idOf w ⌝ }
+{
+    (w / 0x1_0000 % 256) as u8
+}
+
+pub fn value_of(w: u32) -> u16
+    ensures { λ r. ⌜ r ≡ valueOf w ⌝ }
+{
+    (w % 0x1_0000) as u16
+}
+
+pub fn build(t: u8, id: u8, value: u16) -> Built
+    ensures { λ r. ⌜ r ≡ builtOf t id value ⌝ }
+{
+    if 7 < t {
+        return Built::Refused(6);
+    }
+    let bare = (t as u32) * 0x1000_0000 + (id as u32) * 0x1_0000 + (value as u32);
+    Built::Word(bare + u32::count_ones(bare) % 2 * 0x8000_0000)
+}
+
+// Whether a boiler's type answers a question's type.
+fn suits(question: u8, answer: u8) -> bool
+    ensures { λ r. ⌜ r ≡ suitsOf question answer ⌝ }
+{
+    if answer == 6 {
+        return true;
+    }
+    if answer == 7 {
+        return true;
+    }
+    if answer == 4 {
+        return question == 0;
+    }
+    if answer == 5 {
+        return question == 1;
+    }
+    false
+}
+
+pub fn matches(question: u32, answer: u32) -> bool
+    ensures { λ r. ⌜ r ≡ matchesOf question answer ⌝ }
+{
+    if !even(answer) {
+        return false;
+    }
+    let asked = id_of(question);
+    let came = id_of(answer);
+    if asked != came {
+        return false;
+    }
+    suits(type_of(question), type_of(answer))
+}
