@@ -4,3 +4,5 @@ pub mod Parity
 pub mod Fields
 pub mod Table
 pub mod Match
+pub mod One
+mod Determined

@@ -1,0 +1,4 @@
+-- What a reader must believe of the data values.
+pub mod Ids
+pub mod Real
+pub mod Typed

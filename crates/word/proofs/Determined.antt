@@ -1,0 +1,54 @@
+-- Nothing is left open by a contract of this crate: two results that it allows are equal.
+-- Assumes nothing.
+use mathlib.Core.Path.{sym, _∙_}
+use Rattle.word.proofs.One.{One}
+use Rattle.word.proofs.even.Reads as even-reads
+use Rattle.word.proofs.even.Kinds as even-kinds
+use Rattle.word.proofs.type_of.Reads as type-of-reads
+use Rattle.word.proofs.type_of.Kinds as type-of-kinds
+use Rattle.word.proofs.spare_of.Reads as spare-of-reads
+use Rattle.word.proofs.spare_of.Kinds as spare-of-kinds
+use Rattle.word.proofs.id_of.Reads as id-of-reads
+use Rattle.word.proofs.id_of.Kinds as id-of-kinds
+use Rattle.word.proofs.value_of.Reads as value-of-reads
+use Rattle.word.proofs.value_of.Kinds as value-of-kinds
+use Rattle.word.proofs.build.Reads as build-reads
+use Rattle.word.proofs.build.Kinds as build-kinds
+use Rattle.word.proofs.matches.Reads as matches-reads
+use Rattle.word.proofs.matches.Kinds as matches-kinds
+use Rattle.word.proofs.bytes.byte_at.Reads as byte-at-reads
+use Rattle.word.proofs.bytes.byte_at.Kinds as byte-at-kinds
+use Rattle.word.proofs.bytes.pair_at.Reads as pair-at-reads
+use Rattle.word.proofs.bytes.pair_at.Kinds as pair-at-kinds
+use Rattle.word.proofs.bytes.word_at.Reads as word-at-reads
+use Rattle.word.proofs.bytes.word_at.Kinds as word-at-kinds
+
+pub even-one : One even-kinds.ps even-kinds.r even-reads.Post
+even-one κs a u v x y p q = p ∙ sym q
+
+pub type-of-one : One type-of-kinds.ps type-of-kinds.r type-of-reads.Post
+type-of-one κs a u v x y p q = p ∙ sym q
+
+pub spare-of-one : One spare-of-kinds.ps spare-of-kinds.r spare-of-reads.Post
+spare-of-one κs a u v x y p q = p ∙ sym q
+
+pub id-of-one : One id-of-kinds.ps id-of-kinds.r id-of-reads.Post
+id-of-one κs a u v x y p q = p ∙ sym q
+
+pub value-of-one : One value-of-kinds.ps value-of-kinds.r value-of-reads.Post
+value-of-one κs a u v x y p q = p ∙ sym q
+
+pub build-one : One build-kinds.ps build-kinds.r build-reads.Post
+build-one κs a u v x y p q = p ∙ sym q
+
+pub matches-one : One matches-kinds.ps matches-kinds.r matches-reads.Post
+matches-one κs a u v x y p q = p ∙ sym q
+
+pub byte-at-one : One byte-at-kinds.ps byte-at-kinds.r byte-at-reads.Post
+byte-at-one κs a u v x y p q = p ∙ sym q
+
+pub pair-at-one : One pair-at-kinds.ps pair-at-kinds.r pair-at-reads.Post
+pair-at-one κs a u v x y p q = p ∙ sym q
+
+pub word-at-one : One word-at-kinds.ps word-at-kinds.r word-at-reads.Post
+word-at-one κs a u v x y p q = p ∙ sym q
