@@ -25,6 +25,11 @@ pub puts-last : (t : Text) (a : List ℕ) (x : ℕ) → puts t (a ++ (x ∷ []))
 unfolding puts
 puts-last t a x = puts-append t a (x ∷ [])
 
+-- a part, a byte behind it, and the rest
+pub puts-field : (t : Text) (a : List ℕ) (x : ℕ) (b : List ℕ) → puts t (a ++ (x ∷ b)) ≡ puts (pushed (puts t a) x) b
+unfolding puts
+puts-field t a x b = puts-append t a (x ∷ b)
+
 -- more places than a number needs change nothing
 fewer : (k m n : ℕ) → n < k → n < m → digitsIn k n ≡ digitsIn m n
 unfolding digitsIn

@@ -4,5 +4,6 @@ pub mod Parity
 pub mod Fields
 pub mod Table
 pub mod Match
+pub mod Worked
 pub mod One
 mod Determined

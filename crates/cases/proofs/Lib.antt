@@ -1,0 +1,2 @@
+-- The cases that 01 marks P, proved together.
+mod Table

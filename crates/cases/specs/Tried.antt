@@ -1,0 +1,29 @@
+-- 'Tried numbers (P: proved, one table)' of 01, each in the terms of the definitions that the contracts cite. `tried` of proofs/Table.antt
+-- proves them together.
+-- Assumes nothing: these are definitions.
+use mathlib.Core.Path.{_≡_}
+use mathlib.Core.Bool.{true, false}
+use lib.Ieee.{binary32, toBits}
+use lib.Ieee.Exact.{HasValue}
+use Rattle.word.specs.declared.Built.the-variants.{Word}
+use Rattle.word.specs.Frame.{builtOf, read-data, write-data, unknown-dataid, data-invalid}
+use Rattle.values.specs.Real.{realOf}
+
+pub record Tried : Type 0 where
+  -- P1 READ-DATA 25, value 0: 80190000
+  pub p1 : builtOf read-data 25 0 ≡ Word 0x8019_0000
+  -- P2 WRITE-DATA 1, 3C00: 10013C00
+  pub p2 : builtOf write-data 1 0x3c00 ≡ Word 0x1001_3c00
+  -- P3 UNKNOWN-DATAID 25, 0: 70190000
+  pub p3 : builtOf unknown-dataid 25 0 ≡ Word 0x7019_0000
+  -- P4 DATA-INVALID 25, 0: E0190000
+  pub p4 : builtOf data-invalid 25 0 ≡ Word 0xe019_0000
+  -- P5 f8.8 3280 is 50.5, float bits 424A0000
+  pub p5 : toBits binary32 (realOf 0x3280) ≡ 0x424a_0000
+  pub p5-is : HasValue (realOf 0x3280) false 505 10
+  -- P6 FF00 is -1, BF800000
+  pub p6 : toBits binary32 (realOf 0xff00) ≡ 0xbf80_0000
+  pub p6-is : HasValue (realOf 0xff00) true 1 1
+  -- P7 8000 is -128, C3000000
+  pub p7 : toBits binary32 (realOf 0x8000) ≡ 0xc300_0000
+  pub p7-is : HasValue (realOf 0x8000) true 128 1
