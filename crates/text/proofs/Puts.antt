@@ -3,11 +3,11 @@
 use mathlib.Core.Path.{_≡_, refl, sym, ap, ap₂, _∙_}
 use mathlib.Core.Bool.{Bool, true, false, cond}
 use mathlib.Core.List.{List, [], _∷_, _++_, append-nil}
-use Prim.Native.Nat.{ℕ, zero, suc, _+_, _-_, _/_, _%_, _≤_, _<_}
-use native.Mathlib.Nat.{add-zero, add-suc}
+use Prim.Native.Nat.{ℕ, zero, suc, _+_, _-_, _*_, _/_, _%_, _^_, _≤_, _<_}
+use native.Mathlib.Nat.{pow-suc}
 use native.Mathlib.Numerals.{add-one}
 use native.Mathlib.Omega.{arith}
-use borrow.Author.Tests.{lt-ltb, le-ltb, ltb-false}
+use borrow.Author.Tests.{lt-ltb, le-ltb, ltb-true, ltb-false}
 use lib.Dec.{ltb}
 use lib.ListN.{length, take, set, replicate, length-append, length-set}
 use lib.Seq.{take-suc-set, append-snoc}
@@ -53,6 +53,18 @@ unfolding decimalOf digitsIn
 decimal-more n h =
     rw (le-ltb n 10 h) (ap (λ (l : List ℕ). l ++ (digit (n % 10) ∷ [])) (fewer n (suc (n / 10)) (n / 10) (omega arith) (omega arith)))
 
+-- a number below a power of ten has no more digits than the power
+pub decimal-short : (k n : ℕ) → n < 10 ^ suc k → length (decimalOf n) ≤ suc k
+decimal-short zero n h = rw (decimal-one n h) (omega arith)
+decimal-short (suc k) n h = go (ltb n 10) refl (λ big. decimal-short k (n / 10) big)
+  where
+    go : (b : Bool) → ltb n 10 ≡ b → (n / 10 < 10 ^ suc k → length (decimalOf (n / 10)) ≤ suc k) → length (decimalOf n) ≤ suc (suc k)
+    go true e r = rw (decimal-one n (ltb-true n 10 e)) (omega arith)
+    go false e r =
+        let power : 10 ^ suc (suc k) ≡ 10 ^ suc k * 10 = pow-suc 10 (suc k) in
+        let short = r (omega arith) in
+        rw (decimal-more n (ltb-false n 10 e), length-append) (omega arith)
+
 -- a last digit more
 pub hex-more : (k n : ℕ) → 0 < k → hexOf k n ≡ hexOf (k - 1) (n / 16) ++ (hexDigit (n % 16) ∷ [])
 unfolding hexOf
@@ -60,6 +72,11 @@ hex-more zero n h = absurd (let z : ⊥ = omega arith in z)
 hex-more (suc k) n h =
     let e : k ≡ suc k - 1 = omega arith in
     ap (λ (m : ℕ). hexOf m (n / 16) ++ (hexDigit (n % 16) ∷ [])) e
+
+pub hex-length : (k n : ℕ) → length (hexOf k n) ≡ k
+unfolding hexOf
+hex-length zero n = refl
+hex-length (suc k) n = let shorter = hex-length k (n / 16) in rw length-append (omega arith)
 
 -- a line that says l, with room for more
 record Holds (t : Text) (l : List ℕ) : Type 0 where

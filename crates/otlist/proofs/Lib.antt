@@ -1,0 +1,2 @@
+-- What the listing's lines say.
+mod Says
