@@ -1,0 +1,200 @@
+//! Runs both programs on the same random input, stops at the first difference, and says at the end
+//! what was tried.
+
+use std::time::Duration;
+
+use crate::generator;
+use crate::ours::{Ours, LONGEST_RUN};
+use crate::programs::{self, Name, Program, NAMES};
+use crate::random;
+use crate::replay::{pairs, Replay};
+use crate::samples;
+use crate::shrink;
+use crate::tally::Tally;
+use crate::vectors;
+
+/// A run on a shortened input; one that takes longer counts as a difference.
+const LONGEST_TRY: Duration = Duration::from_secs(10);
+
+/// Lines of output shown before and behind the first differing one.
+const BEFORE: usize = 4;
+const BEHIND: usize = 2;
+
+/// The size of one input of each kind: 20 rounds give 200,000 events and 2,000,000 samples.
+fn size(name: Name) -> usize {
+    match name {
+        Name::List => 5_000,
+        Name::Decode => 100_000,
+        Name::Encode => 100,
+        Name::Real => 5_000,
+        Name::Replay => 10_000,
+    }
+}
+
+/// True where nothing differed and nothing was left untried.
+pub fn compare(seed: u64, rounds: u64) -> bool {
+    let ours = Ours::new();
+    // A product that isn't there is no difference to be shortened.
+    if let Err(reason) = ours.run(Name::List, &[], LONGEST_RUN) {
+        println!("nothing can be compared: the program {reason}");
+        return false;
+    }
+    let mut tally = Tally::empty();
+    for round in 1..=rounds {
+        for (place, name) in NAMES.into_iter().enumerate() {
+            let seed = random::derive(seed, round, place as u64);
+            if !compare_one(&ours, name, seed, &mut tally) {
+                return false;
+            }
+        }
+        println!("round {round} of {rounds}: equal");
+    }
+    println!("\nHow often each thing was tried:\n{}", tally.table());
+    let missing = tally.missing();
+    for name in &missing {
+        println!("NEVER TRIED: {name}");
+    }
+    let vectors_good = compare_vectors(&ours);
+    if missing.is_empty() && vectors_good {
+        println!("equal: seed {seed}, {rounds} rounds");
+    }
+    missing.is_empty() && vectors_good
+}
+
+fn compare_one(ours: &Ours, name: Name, seed: u64, tally: &mut Tally) -> bool {
+    let input = generator::generate(name, seed, size(name));
+    let own = own_output(name, &input, tally);
+    let given = ours.run(name, &input, LONGEST_RUN);
+    if given.as_ref() == Ok(&own) {
+        return true;
+    }
+    println!(
+        "DIFFERENCE in {} (input: second gen {0} {seed} {})",
+        name.word(),
+        size(name)
+    );
+    println!("making the input shorter ...");
+    let mut differs =
+        |input: &[u8]| ours.run(name, input, LONGEST_TRY) != Ok(programs::run(name, input));
+    let shortest = shrink::shrink(name, &input, &mut differs);
+    println!(
+        "\nThe shortest input found:\n{}",
+        input_text(name, &shortest)
+    );
+    report(
+        name,
+        &ours.run(name, &shortest, LONGEST_TRY),
+        &programs::run(name, &shortest),
+    );
+    false
+}
+
+/// The second program's output; what it did is counted along the way.
+fn own_output(name: Name, input: &[u8], tally: &mut Tally) -> Vec<u8> {
+    if name == Name::Replay {
+        let (mut replay, mut output) = (Replay::fresh(), Vec::new());
+        replay
+            .feed(input, &mut output)
+            .expect("a vector takes every byte");
+        replay
+            .finish(&mut output)
+            .expect("a vector takes every byte");
+        tally.add(&replay.tally);
+        return output;
+    }
+    let output = programs::run(name, input);
+    match name {
+        Name::List => tally.listing(&output),
+        Name::Decode => tally.samples += input.len() as u64,
+        Name::Encode => tally.written += output.len() as u64,
+        _ => tally.reals += input.len() as u64 / 4,
+    }
+    if name == Name::Decode || name == Name::Real {
+        tally.answers(&output);
+    }
+    output
+}
+
+/// Both programs are held to the outputs written down by hand.
+fn compare_vectors(ours: &Ours) -> bool {
+    let vectors = vectors::all();
+    let mut good = true;
+    for vector in &vectors {
+        let own = programs::run(vector.name, &vector.input);
+        if own != vector.expected {
+            println!("\nSECOND DIFFERS from the fixed vector '{}'", vector.title);
+            println!("{}", input_text(vector.name, &vector.input));
+            report(vector.name, &Ok(vector.expected.clone()), &own);
+            good = false;
+        }
+        let given = ours.run(vector.name, &vector.input, LONGEST_RUN);
+        if given.as_ref() != Ok(&vector.expected) {
+            println!("\nDIFFERENCE from the fixed vector '{}'", vector.title);
+            println!("{}", input_text(vector.name, &vector.input));
+            report(vector.name, &given, &vector.expected);
+            good = false;
+        }
+    }
+    if good {
+        println!("{} fixed vectors: good", vectors.len());
+    }
+    good
+}
+
+fn input_text(name: Name, input: &[u8]) -> String {
+    match name {
+        Name::Replay => String::from_utf8_lossy(input).into_owned(),
+        Name::Decode => runs_text(input),
+        _ => input.chunks(4).map(|word| pairs(word) + "\n").collect(),
+    }
+}
+
+/// Samples run-length coded: each run as its length, an x and its level.
+fn runs_text(samples: &[u8]) -> String {
+    let runs: Vec<String> = shrink::equal_runs(samples)
+        .iter()
+        .map(|run| format!("{}x{}", run.len(), run[0]))
+        .collect();
+    runs.join(" ")
+}
+
+fn output_lines(name: Name, output: &[u8]) -> Vec<String> {
+    match name {
+        Name::Encode => output.chunks(samples::WRITTEN).map(runs_text).collect(),
+        _ => String::from_utf8_lossy(output)
+            .split('\n')
+            .map(str::to_string)
+            .collect(),
+    }
+}
+
+/// Both outputs around the first differing line.
+fn report(name: Name, given: &Result<Vec<u8>, String>, expected: &[u8]) {
+    let expected = output_lines(name, expected);
+    let given = match given {
+        Ok(output) => output_lines(name, output),
+        Err(reason) => return println!("The program {reason}"),
+    };
+    let same = given
+        .iter()
+        .zip(&expected)
+        .take_while(|(one, other)| one == other)
+        .count();
+    println!("First difference in line {} of the output.", same + 1);
+    for (title, lines) in [
+        ("The program gives", given),
+        ("The second program or the vector gives", expected),
+    ] {
+        println!("{title}:");
+        let from = same.saturating_sub(BEFORE);
+        for (place, line) in lines
+            .iter()
+            .enumerate()
+            .skip(from)
+            .take(same - from + 1 + BEHIND)
+        {
+            let mark = if place == same { '>' } else { ' ' };
+            println!("  {mark} {line}");
+        }
+    }
+}

@@ -1,0 +1,139 @@
+//! The box: four lines, one order, the lent reply room (01, 'A line and its turns', 'Numbered
+//! answers').
+
+use crate::line::{Answered, Line, Ticked};
+use crate::modbus::{self, Judged, Order};
+use crate::refusals;
+
+/// "Lent room below 16 bytes (reply)."
+const REPLY_ROOM: usize = 16;
+
+#[derive(Clone, PartialEq, Eq, Debug)]
+pub enum Event {
+    Sent {
+        line: u8,
+        word: u32,
+    },
+    Passed {
+        line: u8,
+        word: u32,
+    },
+    Dropped {
+        line: u8,
+    },
+    Held {
+        line: u8,
+    },
+    Accepted {
+        order: Order,
+    },
+    /// A reply at once: an exception or unit 5's.
+    Reply {
+        bytes: Vec<u8>,
+    },
+    /// The reply of an order, with the boiler's answer if there was one.
+    Outcome {
+        order: Order,
+        answer: Option<u32>,
+        bytes: Vec<u8>,
+        wait: u32,
+    },
+    Refused(u8),
+}
+
+pub struct Gateway {
+    pub lines: [Line; 4],
+    /// "Only one order waits in the whole box, from acceptance until its outcome."
+    pub order: Option<Order>,
+}
+
+impl Gateway {
+    pub fn fresh() -> Gateway {
+        Gateway {
+            lines: [Line::fresh(); 4],
+            order: None,
+        }
+    }
+
+    /// "A tick (1 ms) moves all four lines." "Ticks and boiler frames need the reply room too,
+    /// since they may bring the outcome"; "a refused tick passes no time".
+    pub fn tick(&mut self, room: usize) -> Vec<Event> {
+        if room < REPLY_ROOM {
+            return vec![Event::Refused(refusals::ROOM)];
+        }
+        let mut events = Vec::new();
+        let mut outcome = None;
+        for (place, line) in self.lines.iter_mut().enumerate() {
+            match line.tick() {
+                Ticked::Nothing => {}
+                Ticked::Sent(word) => events.push(Event::Sent {
+                    line: place as u8 + 1,
+                    word,
+                }),
+                Ticked::NoAnswer { wait } => outcome = Some(wait),
+            }
+        }
+        if let Some(wait) = outcome {
+            events.push(self.outcome(None, wait));
+        }
+        events
+    }
+
+    /// A thermostat frame needs no room: its order is 9, 5, 6.
+    pub fn thermostat(&mut self, line: u8, frame: u32) -> Event {
+        if !(1..=4).contains(&line) {
+            return Event::Refused(refusals::LINE);
+        }
+        match self.lines[usize::from(line) - 1].thermostat(frame) {
+            Ok(()) => Event::Held { line },
+            Err(number) => Event::Refused(number),
+        }
+    }
+
+    /// "Order: 15, 9, 5, 6, 7, 8."
+    pub fn boiler(&mut self, line: u8, frame: u32, room: usize) -> Event {
+        if room < REPLY_ROOM {
+            return Event::Refused(refusals::ROOM);
+        }
+        if !(1..=4).contains(&line) {
+            return Event::Refused(refusals::LINE);
+        }
+        match self.lines[usize::from(line) - 1].boiler(frame) {
+            Answered::Refused(number) => Event::Refused(number),
+            Answered::Outcome { word, wait } => self.outcome(Some(word), wait),
+            Answered::Passed(word) => Event::Passed { line, word },
+            Answered::Dropped => Event::Dropped { line },
+        }
+    }
+
+    /// "For Modbus messages 15 comes before 11." "An order goes out on its unit's line."
+    pub fn message(&mut self, message: &[u8], room: usize) -> Event {
+        if room < REPLY_ROOM {
+            return Event::Refused(refusals::ROOM);
+        }
+        match modbus::judge(message, self.order.is_some()) {
+            Judged::Refused(number) => Event::Refused(number),
+            Judged::Reply(bytes) => Event::Reply { bytes },
+            Judged::Accepted(order) => {
+                self.lines[usize::from(order.unit) - 1].order(order.question);
+                self.order = Some(order);
+                Event::Accepted { order }
+            }
+        }
+    }
+
+    /// "With each outcome comes the wait in ticks."
+    fn outcome(&mut self, answer: Option<u32>, wait: u32) -> Event {
+        let order = self
+            .order
+            .take()
+            .expect("an order talked, so one waits in the box");
+        let bytes = modbus::outcome(&order, answer);
+        Event::Outcome {
+            order,
+            answer,
+            bytes,
+            wait,
+        }
+    }
+}
