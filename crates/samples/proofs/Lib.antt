@@ -1,0 +1,4 @@
+-- Laws of reading and writing samples, and the promises.
+pub mod Cases
+pub mod Places
+pub mod Runs

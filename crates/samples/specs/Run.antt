@@ -1,0 +1,21 @@
+-- A run of samples through a reader: the answer to each, and the reader after them.
+-- Assumes nothing: these are definitions.
+use mathlib.Core.List.{List, [], _∷_}
+use Prim.Native.Nat.{ℕ}
+use lib.ListN.{replicate}
+use Rattle.samples.specs.declared.Reader.{Reader}
+use Rattle.samples.specs.declared.Answer.{Answer}
+use Rattle.samples.specs.declared.Answer.the-variants.{Nothing}
+use Rattle.samples.specs.Reading.{freshOf, stepOf}
+
+unfoldable pub answersOf : Reader → List ℕ → List Answer
+answersOf r [] = []
+answersOf r (s ∷ l) = stepOf r s .answer ∷ answersOf (stepOf r s .reader) l
+
+unfoldable pub afterOf : Reader → List ℕ → Reader
+afterOf r [] = r
+afterOf r (s ∷ l) = afterOf (stepOf r s .reader) l
+
+-- n samples that give no answer
+abbrev pub none : ℕ → List Answer
+none n = replicate n Nothing
