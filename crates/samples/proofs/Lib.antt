@@ -2,3 +2,7 @@
 pub mod Cases
 pub mod Places
 pub mod Runs
+pub mod Stretches
+pub mod Tolerant
+pub mod ReadBack
+pub mod Again

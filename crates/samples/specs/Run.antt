@@ -1,5 +1,6 @@
 -- A run of samples through a reader: the answer to each, and the reader after them.
 -- Assumes nothing: these are definitions.
+use mathlib.Core.Path.{_≡_}
 use mathlib.Core.List.{List, [], _∷_}
 use Prim.Native.Nat.{ℕ}
 use lib.ListN.{replicate}
@@ -19,3 +20,7 @@ afterOf r (s ∷ l) = afterOf (stepOf r s .reader) l
 -- n samples that give no answer
 abbrev pub none : ℕ → List Answer
 none n = replicate n Nothing
+
+-- the reader gives an answer to this sample
+abbrev pub Answered : Reader → ℕ → Type 0
+Answered r s = stepOf r s .answer ≡ Nothing → ⊥
