@@ -6,3 +6,6 @@ pub mod Stretches
 pub mod Tolerant
 pub mod ReadBack
 pub mod Again
+pub mod Bounds
+pub mod Tried
+pub mod Determined
