@@ -4,7 +4,7 @@ use denote.Ref.{now}
 use Rattle.samples.proofs.Places.{one-more, all-written}
 use mathlib.Core.Path.{_≡_, refl, sym, ap, _∙_}
 use mathlib.Core.List.{List}
-use Prim.Native.Nat.{ℕ, _-_, _≤_}
+use Prim.Native.Nat.{ℕ, _-_, _≤_, _<_}
 use native.Mathlib.Omega.{arith}
 use borrow.Author.Needs.{needs}
 use borrow.Author.Tests.{lt-ltb, le-ltb}
@@ -21,7 +21,9 @@ abbrev μ-loop : tie.MeasureT-loop
 μ-loop word room₀ i₀ room i = 680 - i
 
 returns : tie.Need-returns Inv-loop μ-loop
-returns c = (simp (lt-ltb _ _ (c .if1 .taken)), simp (lt-ltb _ _ (c .if1 .taken)))
+returns c =
+    let h : length (now (c .before .before .args .room)) < 680 = omega arith in
+    (simp (lt-ltb _ 680 h), simp (lt-ltb _ 680 h))
 
 loop-holds : tie.Need-loop-holds Inv-loop μ-loop
 loop-holds c = (paste-zero _ 0 (samplesOf (c .before .before .args .word)), omega arith, refl, omega arith)
