@@ -10,30 +10,17 @@ use Rattle.samples.specs.declared.Reader.{Reader}
 use Rattle.samples.specs.declared.Answer.{Answer}
 use Rattle.samples.specs.Answers.{early, late, frame}
 use Rattle.samples.specs.Reading.{freshOf, gives, stepOf}
-use Rattle.samples.specs.Run.{answersOf, none}
+use Rattle.samples.specs.Run.{none, Last}
 use Rattle.samples.specs.Edges.{levelOf, Stretch, plain, Allowed, AllAllowed, turned, levelAfter, lineOf, wordOf}
-use Rattle.samples.proofs.Cases.{start-late, past-14, too-late, a-sample}
+use Rattle.samples.proofs.Cases.{start-late, a-sample}
 use Rattle.samples.proofs.Runs.{Quiet, join, ending}
-use Rattle.samples.proofs.Stretches.{md, mid, starting, hold, idle, first-half, quiet-line, line-last, shiftedBy}
+use Rattle.samples.proofs.Stretches.{mid, at-gap, at-24, starting, hold, idle, first-half, quiet-line, line-last, shiftedBy}
 use Rattle.samples.proofs.Tolerant.{tolerant}
-
--- one answer, at the last of these samples
-abbrev pub Last : List ℕ → Answer → Type 0
-Last l x = answersOf freshOf l ≡ none (length l - 1) ++ (x ∷ [])
 
 ends : {q : Reader} (a : List ℕ) (s : ℕ) (x : Answer) → Quiet freshOf a q → stepOf q s ≡ gives x → Last (a ++ (s ∷ [])) x
 ends a s x h e =
     let n : length a ≡ length (a ++ (s ∷ [])) - 1 = let g = length-append a (s ∷ []) in omega arith in
     ending s x h e ∙ ap (λ (k : ℕ). none k ++ (x ∷ [])) n
-
--- an edge, or none, at distance d + 1
-edge-early : (k w d : ℕ) (a : Bool) → 14 ≤ d → d < 17 → stepOf (mid k w d a false) (levelOf (not a)) ≡ gives early
-edge-early k w d true g h = a-sample (mid k w d true false) 0 (omega arith) ∙ past-14 (md k w d true false) (d + 1) false (omega arith) (omega arith) refl
-edge-early k w d false g h = a-sample (mid k w d false false) 1 (omega arith) ∙ past-14 (md k w d false false) (d + 1) true (omega arith) (omega arith) refl
-
-any-late : (k w d : ℕ) (a b : Bool) → 23 ≤ d → stepOf (mid k w d a false) (levelOf b) ≡ gives late
-any-late k w d a true h = a-sample (mid k w d a false) 1 (omega arith) ∙ too-late (md k w d a false) (d + 1) true (omega arith)
-any-late k w d a false h = a-sample (mid k w d a false) 0 (omega arith) ∙ too-late (md k w d a false) (d + 1) false (omega arith)
 
 start-any-late : (b : Bool) → stepOf (starting 14) (levelOf b) ≡ gives late
 start-any-late true = a-sample (starting 14) 1 (omega arith) ∙ start-late 15 true (omega arith)
@@ -62,7 +49,7 @@ module _ (n s : ℕ) (l : List Stretch) (gs : 8 ≤ s) (hs : s ≤ 14) (hl : All
       let e : (lineOf n s l ++ replicate 16 (levelOf a)) ++ (levelOf (not a) ∷ []) ≡ lineOf n s (l ++ (plain 17 ∷ [])) =
       append-assoc (lineOf n s l) (replicate 16 (levelOf a)) (levelOf (not a) ∷ []) ∙ sym (line-last n s l (plain 17)) in
       rw e at (ends (lineOf n s l ++ replicate 16 (levelOf a)) (levelOf (not a)) early (stays 16 (omega arith))
-      (edge-early (1 + length l) (shiftedBy 0 false l) 16 a (omega arith) (omega arith)))
+      (at-gap (1 + length l) (shiftedBy 0 false l) 16 a false (omega arith) (omega arith)))
 
   -- "No middle edge up to 23 is refusal 2, given at distance 24 for either level there"
   pub middle-at-24 : (b : Bool) → Last (lineOf n s l ++ (replicate 23 (levelOf a) ++ (levelOf b ∷ []))) late
@@ -70,7 +57,7 @@ module _ (n s : ℕ) (l : List Stretch) (gs : 8 ≤ s) (hs : s ≤ 14) (hl : All
       let e : (lineOf n s l ++ replicate 23 (levelOf a)) ++ (levelOf b ∷ []) ≡ lineOf n s l ++ (replicate 23 (levelOf a) ++ (levelOf b ∷ [])) =
       append-assoc (lineOf n s l) (replicate 23 (levelOf a)) (levelOf b ∷ []) in
       rw e at (ends (lineOf n s l ++ replicate 23 (levelOf a)) (levelOf b) late (stays 23 (omega arith))
-      (any-late (1 + length l) (shiftedBy 0 false l) 23 a b (omega arith)))
+      (at-24 (1 + length l) (shiftedBy 0 false l) 23 a false b (omega arith)))
 
 all-allowed : (l r : List Stretch) → AllAllowed l → AllAllowed r → AllAllowed (l ++ r)
 all-allowed [] r hl hr = hr

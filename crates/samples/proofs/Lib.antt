@@ -8,6 +8,9 @@ pub mod Tolerant
 pub mod ReadBack
 pub mod Steps
 pub mod Again
+pub mod Told
+pub mod ToldEdge
+pub mod Only
 pub mod Bounds
 pub mod Tried
 pub mod Determined

@@ -1,7 +1,7 @@
 -- The reader along a line that keeps to 01's distances: quiet up to each middle edge, whose bit it takes.
 -- Assumes nothing.
 use mathlib.Core.Path.{_≡_, refl, sym, ap, _∙_, subst}
-use mathlib.Core.Bool.{Bool, true, false, not}
+use mathlib.Core.Bool.{Bool, true, false, not, Bool·beq}
 use mathlib.Core.List.{List, [], _∷_, _++_, append-assoc, append-nil}
 use Prim.Native.Nat.{ℕ, zero, suc, _+_, _*_, _-_, _%_, _^_, _≤_, _<_}
 use native.Mathlib.Nat.{pow-suc, mod-eq-of-lt}
@@ -12,10 +12,11 @@ use Rattle.samples.specs.declared.Middle.{Middle}
 use Rattle.samples.specs.declared.Phase.the-variants.{Waiting, Start, Bits}
 use Rattle.samples.specs.declared.Reader.{Reader}
 use Rattle.samples.specs.declared.Answer.the-variants.{Nothing}
-use Rattle.samples.specs.Reading.{freshOf, goesOn, bitOf, middleOf, waitedOf, stepOf}
+use Rattle.samples.specs.Answers.{early, late}
+use Rattle.samples.specs.Reading.{freshOf, gives, goesOn, bitOf, middleOf, nextOf, waitedOf, stepOf}
 use Rattle.samples.specs.Run.{answersOf, afterOf}
 use Rattle.samples.specs.Edges.{levelOf, Stretch, plain, crossed, Allowed, AllAllowed, turned, levelAfter, stretchSamples, stretchesSamples, signalOf, lineOf, edgeBits, numberFrom}
-use Rattle.samples.proofs.Cases.{idle-enough, first-edge, start-on, start-middle, no-edge, other-edge, middle-edge, next-bit, bit-small, a-sample}
+use Rattle.samples.proofs.Cases.{idle-enough, first-edge, start-on, start-middle, no-edge, other-edge, middle-edge, second-other, before-8, past-14, too-late, next-bit, bit-small, a-sample}
 use Rattle.samples.proofs.Runs.{Quiet, stay, join, one}
 
 abbrev pub armed : Reader
@@ -30,26 +31,47 @@ mid k w d a o = record { phase = Bits (md k w d a o) }
 abbrev pub starting : ℕ → Reader
 starting d = record { phase = Start d }
 
--- one sample of a level
-module _ (k w d : ℕ) (o : Bool) where
-  same-level : (a : Bool) → d < 23 → stepOf (mid k w d a o) (levelOf a) ≡ goesOn (Bits (md k w (d + 1) a o))
-  same-level true h = a-sample (mid k w d true o) 1 (omega arith) ∙ no-edge (md k w d true o) (d + 1) true (omega arith) refl
-  same-level false h = a-sample (mid k w d false o) 0 (omega arith) ∙ no-edge (md k w d false o) (d + 1) false (omega arith) refl
+-- one sample, of a level, after a middle edge and before the next
+level-sample : (k w d : ℕ) (a o b : Bool) → stepOf (mid k w d a o) (levelOf b) ≡ nextOf (md k w d a o) (d + 1) b
+level-sample k w d a o true = a-sample (mid k w d a o) 1 (omega arith)
+level-sample k w d a o false = a-sample (mid k w d a o) 0 (omega arith)
 
-  pub at-middle : (a : Bool) → 17 ≤ d → d < 23 → stepOf (mid k w d a o) (levelOf (not a)) ≡ middleOf (md k w d a o) (not a)
-  at-middle true g h = a-sample (mid k w d true o) 0 (omega arith) ∙ middle-edge (md k w d true o) (d + 1) false (omega arith) (omega arith) refl
-  at-middle false g h = a-sample (mid k w d false o) 1 (omega arith) ∙ middle-edge (md k w d false o) (d + 1) true (omega arith) (omega arith) refl
+same : (a : Bool) → Bool·beq a a ≡ true
+same true = refl
+same false = refl
 
-at-other : (k w d : ℕ) (a : Bool) → 7 ≤ d → d < 14 → stepOf (mid k w d a false) (levelOf (not a)) ≡ goesOn (Bits (md k w (d + 1) (not a) true))
-at-other k w d true g h = a-sample (mid k w d true false) 0 (omega arith) ∙ other-edge (md k w d true false) (d + 1) false (omega arith) (omega arith) refl refl
-at-other k w d false g h = a-sample (mid k w d false false) 1 (omega arith) ∙ other-edge (md k w d false false) (d + 1) true (omega arith) (omega arith) refl refl
+unlike : (a : Bool) → Bool·beq (not a) a ≡ false
+unlike true = refl
+unlike false = refl
+
+module _ (k w d : ℕ) (a o : Bool) where
+  pub same-level : d < 23 → stepOf (mid k w d a o) (levelOf a) ≡ goesOn (Bits (md k w (d + 1) a o))
+  same-level h = level-sample k w d a o a ∙ no-edge (md k w d a o) (d + 1) a (omega arith) (same a)
+
+  pub at-middle : 17 ≤ d → d < 23 → stepOf (mid k w d a o) (levelOf (not a)) ≡ middleOf (md k w d a o) (not a)
+  at-middle g h = level-sample k w d a o (not a) ∙ middle-edge (md k w d a o) (d + 1) (not a) (omega arith) (omega arith) (unlike a)
+
+  pub at-second : d < 17 → o ≡ true → stepOf (mid k w d a o) (levelOf (not a)) ≡ gives early
+  at-second h e = level-sample k w d a o (not a) ∙ second-other (md k w d a o) (d + 1) (not a) (omega arith) (unlike a) e
+
+  pub at-early : d < 7 → stepOf (mid k w d a o) (levelOf (not a)) ≡ gives early
+  at-early h = level-sample k w d a o (not a) ∙ before-8 (md k w d a o) (d + 1) (not a) (omega arith) (unlike a)
+
+  pub at-gap : 14 ≤ d → d < 17 → stepOf (mid k w d a o) (levelOf (not a)) ≡ gives early
+  at-gap g h = level-sample k w d a o (not a) ∙ past-14 (md k w d a o) (d + 1) (not a) (omega arith) (omega arith) (unlike a)
+
+  pub at-24 : (b : Bool) → 23 ≤ d → stepOf (mid k w d a o) (levelOf b) ≡ gives late
+  at-24 b h = level-sample k w d a o b ∙ too-late (md k w d a o) (d + 1) b (omega arith)
+
+pub at-other : (k w d : ℕ) (a : Bool) → 7 ≤ d → d < 14 → stepOf (mid k w d a false) (levelOf (not a)) ≡ goesOn (Bits (md k w (d + 1) (not a) true))
+at-other k w d a g h = level-sample k w d a false (not a) ∙ other-edge (md k w d a false) (d + 1) (not a) (omega arith) (omega arith) (unlike a) refl
 
 -- samples of one level
 pub hold : (k w : ℕ) (o a : Bool) (n d : ℕ) → d + n ≤ 23 → Quiet (mid k w d a o) (replicate n (levelOf a)) (mid k w (d + n) a o)
 hold k w o a zero d h = let z : d + 0 ≡ d = omega arith in rw z (stay (mid k w d a o))
 hold k w o a (suc n) d h =
     let z : d + suc n ≡ d + 1 + n = omega arith in
-    rw z (join (one (levelOf a) (same-level k w d o a (omega arith))) (hold k w o a n (d + 1) (omega arith)))
+    rw z (join (one (levelOf a) (same-level k w d a o (omega arith))) (hold k w o a n (d + 1) (omega arith)))
 
 -- all but the last of a stretch's samples, and the reader before that last one
 abbrev pub legSamples : Bool → Stretch → List ℕ
@@ -84,17 +106,13 @@ not-not false = refl
 
 -- the middle edge at the end of a stretch
 pub leg-edge : (k w : ℕ) (a : Bool) (t : Stretch) → Allowed t → stepOf (legEnd k w a t) (levelOf (turned a t)) ≡ middleOf (afterLeg k w a t) (turned a t)
-leg-edge k w a (plain d) h = at-middle k w (d - 1) false a (omega arith) (omega arith)
+leg-edge k w a (plain d) h = at-middle k w (d - 1) a false (omega arith) (omega arith)
 leg-edge k w a (crossed e d) h =
     subst (λ (b : Bool). stepOf (mid k w (d - 1) (not a) true) (levelOf b) ≡ middleOf (md k w (d - 1) (not a) true) b) (not-not a)
-    (at-middle k w (d - 1) true (not a) (omega arith) (omega arith))
-
-leg-edges : (k w : ℕ) (a : Bool) (t : Stretch) → (afterLeg k w a t .edges ≡ k) × (afterLeg k w a t .word ≡ w)
-leg-edges k w a (plain d) = (refl, refl)
-leg-edges k w a (crossed e d) = (refl, refl)
+    (at-middle k w (d - 1) (not a) true (omega arith) (omega arith))
 
 -- the word one bit on
-abbrev shift : ℕ → Bool → ℕ
+abbrev pub shift : ℕ → Bool → ℕ
 shift w a = (w * 2 + bitOf a) % 2 ^ 32
 
 -- a whole stretch is the next bit

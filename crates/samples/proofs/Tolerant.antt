@@ -10,7 +10,7 @@ use lib.ListN.{length, length-append}
 use Rattle.samples.specs.declared.Answer.{Answer}
 use Rattle.samples.specs.Answers.{frame, no-stop}
 use Rattle.samples.specs.Reading.{freshOf, gives, middleOf, stepOf}
-use Rattle.samples.specs.Run.{answersOf, afterOf, none}
+use Rattle.samples.specs.Run.{answersOf, afterOf, none, Last}
 use Rattle.samples.specs.Edges.{levelOf, Stretch, plain, crossed, Allowed, AllAllowed, turned, levelAfter, lineOf, wordOf}
 use Rattle.samples.proofs.Cases.{stop-rises, stop-falls}
 use Rattle.samples.proofs.Runs.{Quiet, join, ending, ending-after}
@@ -53,15 +53,15 @@ module _ (n s : ℕ) (l : List Stretch) (t : Stretch) (gs : 8 ≤ s) (hs : s ≤
       ∙ ap (λ (w : ℕ). gives (cond (turned a t) no-stop (frame w))) (word-after 0 0 false l (omega arith) (omega arith))
 
   -- the one answer comes at the last sample
-  judged : answersOf freshOf line ≡ none (length line - 1) ++ (cond (turned a t) no-stop (frame (wordOf l)) ∷ [])
+  judged : Last line (cond (turned a t) no-stop (frame (wordOf l)))
   judged =
       ap (answersOf freshOf) split ∙ ending (levelOf (turned a t)) (cond (turned a t) no-stop (frame (wordOf l))) quiet last
       ∙ ap (λ (k : ℕ). none k ++ (cond (turned a t) no-stop (frame (wordOf l)) ∷ [])) before-length
 
-  pub tolerant : turned (levelAfter false l) t ≡ false → answersOf freshOf line ≡ none (length line - 1) ++ (frame (wordOf l) ∷ [])
+  pub tolerant : turned (levelAfter false l) t ≡ false → Last line (frame (wordOf l))
   tolerant falls = judged ∙ ap (λ (b : Bool). none (length line - 1) ++ (cond b no-stop (frame (wordOf l)) ∷ [])) falls
 
-  pub rising-stop : turned (levelAfter false l) t ≡ true → answersOf freshOf line ≡ none (length line - 1) ++ (no-stop ∷ [])
+  pub rising-stop : turned (levelAfter false l) t ≡ true → Last line no-stop
   rising-stop rises = judged ∙ ap (λ (b : Bool). none (length line - 1) ++ (cond b no-stop (frame (wordOf l)) ∷ [])) rises
 
   pub fresh-again : afterOf freshOf line ≡ freshOf

@@ -8,9 +8,8 @@ use lib.ListN.{replicate}
 use Rattle.samples.specs.declared.Answer.{Answer}
 use Rattle.samples.specs.Answers.{early, late, frame}
 use Rattle.samples.specs.Reading.{waitedOf, startOf, middleOf, nextOf, stepOf}
-use Rattle.samples.specs.Run.{answersOf}
+use Rattle.samples.specs.Run.{answersOf, Last}
 use Rattle.samples.specs.Edges.{Stretch, plain, crossed, lineOf}
-use Rattle.samples.proofs.Bounds.{Last}
 
 -- samples, and the one answer that they give, at their last
 pub data Try : Type 0 where

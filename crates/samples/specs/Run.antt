@@ -1,9 +1,9 @@
 -- A run of samples through a reader: the answer to each, and the reader after them.
 -- Assumes nothing: these are definitions.
 use mathlib.Core.Path.{_≡_}
-use mathlib.Core.List.{List, [], _∷_}
-use Prim.Native.Nat.{ℕ}
-use lib.ListN.{replicate}
+use mathlib.Core.List.{List, [], _∷_, _++_}
+use Prim.Native.Nat.{ℕ, _-_}
+use lib.ListN.{length, replicate}
 use Rattle.samples.specs.declared.Reader.{Reader}
 use Rattle.samples.specs.declared.Answer.{Answer}
 use Rattle.samples.specs.declared.Answer.the-variants.{Nothing}
@@ -24,3 +24,7 @@ none n = replicate n Nothing
 -- the reader gives an answer to this sample
 abbrev pub Answered : Reader → ℕ → Type 0
 Answered r s = stepOf r s .answer ≡ Nothing → ⊥
+
+-- a fresh reader gives one answer to these samples, this one, at their last
+abbrev pub Last : List ℕ → Answer → Type 0
+Last l x = answersOf freshOf l ≡ none (length l - 1) ++ (x ∷ [])
