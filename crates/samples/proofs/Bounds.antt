@@ -1,11 +1,11 @@
 -- The bounds of 01's distances, wherever in a frame they are met: P11, a middle edge at 24, the start bit's middle edge at 15.
 -- Assumes nothing.
-use mathlib.Core.Path.{_≡_, refl, sym, ap, _∙_}
+use mathlib.Core.Path.{_≡_, sym, ap, _∙_}
 use mathlib.Core.Bool.{Bool, true, false, not}
 use mathlib.Core.List.{List, [], _∷_, _++_, append-assoc}
-use Prim.Native.Nat.{ℕ, zero, suc, _+_, _-_, _≤_, _<_}
+use Prim.Native.Nat.{ℕ, _+_, _-_, _≤_}
 use native.Mathlib.Omega.{arith}
-use lib.ListN.{length, length-append, length-replicate, replicate}
+use lib.ListN.{length, length-append, replicate}
 use Rattle.samples.specs.declared.Reader.{Reader}
 use Rattle.samples.specs.declared.Answer.{Answer}
 use Rattle.samples.specs.Answers.{early, late, frame}
@@ -14,7 +14,7 @@ use Rattle.samples.specs.Run.{none, Last}
 use Rattle.samples.specs.Edges.{levelOf, Stretch, plain, Allowed, AllAllowed, turned, levelAfter, lineOf, wordOf}
 use Rattle.samples.proofs.Cases.{start-late, a-sample}
 use Rattle.samples.proofs.Runs.{Quiet, join, ending}
-use Rattle.samples.proofs.Stretches.{mid, at-gap, at-24, starting, hold, idle, first-half, quiet-line, line-last, shiftedBy}
+use Rattle.samples.proofs.Stretches.{mid, at-gap, at-24, starting, hold, idle, first-half, quiet-line, line-last, shiftedBy, all-allowed}
 use Rattle.samples.proofs.Tolerant.{tolerant}
 
 ends : {q : Reader} (a : List ℕ) (s : ℕ) (x : Answer) → Quiet freshOf a q → stepOf q s ≡ gives x → Last (a ++ (s ∷ [])) x
@@ -58,10 +58,6 @@ module _ (n s : ℕ) (l : List Stretch) (gs : 8 ≤ s) (hs : s ≤ 14) (hl : All
       append-assoc (lineOf n s l) (replicate 23 (levelOf a)) (levelOf b ∷ []) in
       rw e at (ends (lineOf n s l ++ replicate 23 (levelOf a)) (levelOf b) late (stays 23 (omega arith))
       (at-24 (1 + length l) (shiftedBy 0 false l) 23 a false b (omega arith)))
-
-all-allowed : (l r : List Stretch) → AllAllowed l → AllAllowed r → AllAllowed (l ++ r)
-all-allowed [] r hl hr = hr
-all-allowed (t ∷ l) r hl hr = (hl .0, all-allowed l r (hl .1) hr)
 
 -- P11: "at 18 and 23 good": with such a stretch anywhere among the 32, the frame is read to its end
 module _ (n s : ℕ) (l r : List Stretch) (t : Stretch) (gs : 8 ≤ s) (hs : s ≤ 14) (hl : AllAllowed l) (hr : AllAllowed r) (ht : Allowed t) (d : ℕ)

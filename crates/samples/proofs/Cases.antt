@@ -1,17 +1,16 @@
 -- What one sample does, case by case: the tests of 01's sentences from facts on the numbers.
 -- Assumes nothing.
-use mathlib.Core.Path.{_≡_, refl, sym, ap, _∙_}
-use mathlib.Core.Bool.{Bool, true, false, cond, not, _&&_, Bool·beq}
+use mathlib.Core.Path.{_≡_, refl, ap}
+use mathlib.Core.Bool.{Bool, true, false, _&&_, Bool·beq}
 use Prim.Native.Nat.{ℕ, _+_, _*_, _%_, _^_, _≤_, _<_, min}
 use native.Mathlib.Omega.{arith}
 use borrow.Author.Tests.{lt-ltb, le-ltb, le-leb, lt-leb}
-use lib.Dec.{leb, ltb, eqb}
+use lib.Dec.{eqb}
 use Rattle.samples.specs.declared.Middle.{Middle}
-use Rattle.samples.specs.declared.Phase.{Phase}
 use Rattle.samples.specs.declared.Phase.the-variants.{Waiting, Start, Bits}
 use Rattle.samples.specs.declared.Reader.{Reader}
 use Rattle.samples.specs.Answers.{early, late, no-stop, no-sample, frame}
-use Rattle.samples.specs.Reading.{gives, goesOn, waitedOf, startOf, pastEdge, within, fartherOf, bitOf, middleOf, nextOf, takenBy, stepOf}
+use Rattle.samples.specs.Reading.{gives, goesOn, waitedOf, startOf, pastEdge, fartherOf, bitOf, middleOf, nextOf, takenBy, stepOf}
 
 and-false : (b : Bool) → b && false ≡ false
 and-false true = refl

@@ -1,12 +1,14 @@
--- Laws of reading and writing samples, and the promises.
+-- The laws of reading and writing samples, and the promises: ReadBack and Again (what is written is read; nothing older than the last
+-- answer is kept), Tolerant (errors don't add up), Only (nothing else is read), Bounds and Tried (P11 and the other bounds), Room (a
+-- lent room), Determined (no contract leaves anything open).
 pub mod Cases
-pub mod Places
-pub mod Room
+pub mod Steps
 pub mod Runs
 pub mod Stretches
 pub mod Tolerant
+pub mod Places
+pub mod Room
 pub mod ReadBack
-pub mod Steps
 pub mod Again
 pub mod Told
 pub mod ToldEdge

@@ -19,7 +19,7 @@ use Rattle.samples.specs.Reading.{freshOf, stepOf}
 use Rattle.samples.specs.Run.{answersOf, none, Last}
 use Rattle.samples.specs.Edges.{levelOf, Stretch, plain, crossed, AllAllowed, levelAfter, lineOf, wordOf, Heard}
 use Rattle.samples.proofs.Cases.{bad-sample}
-use Rattle.samples.proofs.Stretches.{md, mid, same-level, at-second, at-early, at-gap, at-24, at-other, legSamples, legEnd}
+use Rattle.samples.proofs.Stretches.{not-not, md, mid, same-level, at-second, at-early, at-gap, at-24, at-other, legSamples, legEnd}
 use Rattle.samples.proofs.Told.{Open, Told, waits, starts, follows, Next, goes, refuses, snoc, behind, wait-next, start-next}
 use Rattle.samples.proofs.ToldEdge.{edge-next}
 
@@ -30,10 +30,6 @@ level true (suc zero) = inl (inl refl)
 level false zero = inl (inl refl)
 level false (suc zero) = inl (inr refl)
 level c (suc (suc x)) = inr (omega arith)
-
-not-not : (a : Bool) → not (not a) ≡ a
-not-not true = refl
-not-not false = refl
 
 -- the next sample after a middle edge
 module _ (h b : List ℕ) (s : ℕ) (l : List Stretch) (hs : (8 ≤ s) × (s ≤ 14)) (hl : AllAllowed l) (len : length l ≤ 32) where

@@ -6,7 +6,7 @@ use Prim.Native.Nat.{ℕ, zero, suc, _+_, _*_, _-_, _/_, _%_, _^_, _≤_, _<_}
 use native.Mathlib.Omega.{arith}
 use native.Mathlib.Nat.{zero-add}
 use native.Mathlib.Numerals.{add-one}
-use lib.ListN.{length, getD, set, take, drop, length-append, replicate, getD-replicate, List·getD-append}
+use lib.ListN.{length, getD, set, drop, length-append, replicate, getD-replicate, List·getD-append}
 use lib.Seq.{getD-append-add, take-all, paste, paste-suc}
 use Rattle.samples.specs.Written.{bitSamples, inSamples, bitsOf, frameBits, samplesOf}
 

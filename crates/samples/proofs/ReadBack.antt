@@ -1,9 +1,9 @@
 -- What is written is read: the written samples are a line whose stretches are all of 20 samples, with the other edge, where there is one, at 10.
 -- Assumes nothing.
-use mathlib.Core.Path.{_≡_, refl, sym, ap, ap₂, _∙_, subst}
-use mathlib.Core.Bool.{Bool, true, false, not, cond}
+use mathlib.Core.Path.{_≡_, refl, sym, ap, ap₂, _∙_}
+use mathlib.Core.Bool.{Bool, true, false}
 use mathlib.Core.List.{List, [], _∷_, _++_, append-assoc}
-use Prim.Native.Nat.{ℕ, zero, suc, _+_, _*_, _-_, _/_, _%_, _^_, _≤_, _<_}
+use Prim.Native.Nat.{ℕ, zero, suc, _+_, _*_, _-_, _/_, _%_, _^_, _<_}
 use native.Mathlib.Nat.{pow-suc, div-one, div-div-eq-div-mul, mod-lt, zero-lt-suc}
 use native.Mathlib.Omega.{arith}
 use lib.ListN.{length, length-append, replicate}
@@ -12,10 +12,11 @@ use Rattle.samples.specs.declared.Answer.{Answer}
 use Rattle.samples.specs.Answers.{frame}
 use Rattle.samples.specs.Reading.{freshOf, waitedOf, stepOf}
 use Rattle.samples.specs.Run.{answersOf, afterOf, none}
-use Rattle.samples.specs.Edges.{levelOf, Stretch, plain, crossed, Allowed, AllAllowed, turned, levelAfter, stretchSamples, stretchesSamples, signalOf, lineOf, edgeBits, numberFrom, wordOf}
+use Rattle.samples.specs.Edges.{levelOf, Stretch, plain, crossed, Allowed, AllAllowed, turned, levelAfter, stretchSamples, stretchesSamples, signalOf, lineOf, edgeBits, numberFrom}
 use Rattle.samples.specs.Written.{bitSamples, inSamples, bitsOf, samplesOf}
 use Rattle.samples.proofs.Places.{length-bits, length-samples}
 use Rattle.samples.proofs.Runs.{answers-append}
+use Rattle.samples.proofs.Stretches.{level-last}
 use Rattle.samples.proofs.Tolerant.{tolerant, fresh-again}
 
 -- the stretch to a bit, from the level before it
@@ -81,10 +82,6 @@ falls : (a : Bool) → turned a (stretchTo a 1) ≡ false
 falls true = refl
 falls false = refl
 
-level-last : (a : Bool) (l : List Stretch) (t : Stretch) → levelAfter a (l ++ (t ∷ [])) ≡ turned (levelAfter a l) t
-level-last a [] t = refl
-level-last a (u ∷ l) t = level-last (turned a u) l t
-
 -- the bits of a word make it again
 number-back : (k w : ℕ) → numberFrom (w / 2 ^ k) (bitsOf k w) ≡ w
 unfolding bitsOf
@@ -108,64 +105,63 @@ idle-9 : answersOf freshOf (replicate 9 0) ≡ none 9
 unfolding answersOf stepOf waitedOf
 idle-9 = refl
 
+last-allowed : (a : Bool) → Allowed (stretchTo a 1)
+last-allowed true = omega arith
+last-allowed false = omega arith
+
 module _ (w : ℕ) (fits : w < 2 ^ 32) where
   abbrev bits : List ℕ
   bits = bitsOf 32 w
 
+  abbrev ways : List Stretch
+  ways = stretchesTo false bits
+
+  abbrev level : Bool
+  level = levelAfter false ways
+
   abbrev last : Stretch
-  last = stretchTo (levelAfter false (stretchesTo false bits)) 1
+  last = stretchTo level 1
 
   -- the written samples as a line, and the half bit after its last middle edge
-  as-line : samplesOf w ≡ signalOf 10 (stretchesTo false bits ++ (last ∷ [])) ++ replicate 9 0
+  as-line : samplesOf w ≡ signalOf 10 (ways ++ (last ∷ [])) ++ replicate 9 0
   unfolding samplesOf inSamples
   as-line =
       ap (λ (y : List ℕ). replicate 10 1 ++ (0 ∷ y))
       (run-of-bits false (bits ++ (1 ∷ [])) (binary-last bits (binary 32 w))
       ∙ ap₂ (λ (y : List Stretch) (b : Bool). stretchesSamples false y ++ replicate 9 (levelOf b)) (stretches-to-last false bits)
-      (ap (levelAfter false) (stretches-to-last false bits) ∙ level-last false (stretchesTo false bits) last ∙ falls (levelAfter false (stretchesTo false bits))))
+      (ap (levelAfter false) (stretches-to-last false bits) ∙ level-last false ways last ∙ falls level))
 
   abbrev line : List ℕ
-  line = lineOf 0 10 (stretchesTo false bits ++ (last ∷ []))
+  line = lineOf 0 10 (ways ++ (last ∷ []))
 
   length-line : length line ≡ 695
   length-line =
-      let h : length (samplesOf w) ≡ length (signalOf 10 (stretchesTo false bits ++ (last ∷ []))) + 9 =
-      ap length as-line ∙ length-append (signalOf 10 (stretchesTo false bits ++ (last ∷ []))) (replicate 9 0) in
+      let h : length (samplesOf w) ≡ length (signalOf 10 (ways ++ (last ∷ []))) + 9 =
+      ap length as-line ∙ length-append (signalOf 10 (ways ++ (last ∷ []))) (replicate 9 0) in
       omega (arith, length-samples w)
 
-  last-allowed : (a : Bool) → AllAllowed (stretchTo a 1 ∷ [])
-  last-allowed true = (omega arith, tt)
-  last-allowed false = (omega arith, tt)
-
-  length-32 : length (stretchesTo false bits) ≡ 32
+  length-32 : length ways ≡ 32
   length-32 = length-stretches false bits ∙ length-bits 32 w
 
-  the-word : numberFrom 0 (edgeBits false (stretchesTo false bits)) ≡ w
+  the-word : numberFrom 0 (edgeBits false ways) ≡ w
   the-word =
       let z : w / 2 ^ 32 ≡ 0 = omega arith in
       ap (numberFrom 0) (bits-of-stretches false bits (binary 32 w)) ∙ ap (λ (x : ℕ). numberFrom x bits) (sym z) ∙ number-back 32 w
 
-  module _ where
-    abbrev fallen : turned (levelAfter false (stretchesTo false bits)) last ≡ false
-    fallen = falls (levelAfter false (stretchesTo false bits))
-
-    abbrev last-ok : Allowed last
-    last-ok = last-allowed (levelAfter false (stretchesTo false bits)) .0
-
   read-line : answersOf freshOf line ≡ none 694 ++ (frame w ∷ [])
   read-line =
       let k : length line - 1 ≡ 694 = omega (arith, length-line) in
-      tolerant 0 10 (stretchesTo false bits) last (omega arith) (omega arith) (allowed false bits) last-ok length-32 fallen
+      tolerant 0 10 ways last (omega arith) (omega arith) (allowed false bits) (last-allowed level) length-32 (falls level)
       ∙ ap₂ (λ (k x : ℕ). none k ++ (frame x ∷ [])) k the-word
 
   after-line : afterOf freshOf line ≡ freshOf
-  after-line = fresh-again 0 10 (stretchesTo false bits) last (omega arith) (omega arith) (allowed false bits) last-ok length-32
+  after-line = fresh-again 0 10 ways last (omega arith) (omega arith) (allowed false bits) (last-allowed level) length-32
 
   -- 24 idle samples and then the word's: no answer to the first 24 + 670, the frame at the next, and none to the 9 after it
   pub read-back : answersOf freshOf (replicate 24 0 ++ samplesOf w) ≡ none (24 + 670) ++ (frame w ∷ none 9)
   read-back =
       ap (λ (y : List ℕ). answersOf freshOf (replicate 24 0 ++ y)) as-line
-      ∙ ap (answersOf freshOf) (sym (append-assoc (replicate 24 0) (signalOf 10 (stretchesTo false bits ++ (last ∷ []))) (replicate 9 0)))
+      ∙ ap (answersOf freshOf) (sym (append-assoc (replicate 24 0) (signalOf 10 (ways ++ (last ∷ []))) (replicate 9 0)))
       ∙ answers-append freshOf line (replicate 9 0)
       ∙ ap₂ (λ (y z : List Answer). y ++ z) read-line (ap (λ (q : Reader). answersOf q (replicate 9 0)) after-line ∙ idle-9)
       ∙ append-assoc (none 694) (frame w ∷ []) (none 9)

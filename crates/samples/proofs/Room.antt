@@ -1,7 +1,7 @@
 -- A lent room: below 680 bytes refusal 15 and nothing changes; otherwise its first 680 bytes are the word's samples and the rest stays.
 -- Assumes nothing.
 use mathlib.Core.Path.{_≡_}
-use mathlib.Core.List.{List, _++_}
+use mathlib.Core.List.{List}
 use Prim.Native.Nat.{ℕ, _≤_, _<_}
 use borrow.Author.Tests.{lt-ltb, le-ltb}
 use lib.ListN.{length, take, drop}

@@ -11,11 +11,10 @@ use lib.ListN.{length, replicate, replicate-append-replicate}
 use Rattle.samples.specs.declared.Middle.{Middle}
 use Rattle.samples.specs.declared.Phase.the-variants.{Waiting, Start, Bits}
 use Rattle.samples.specs.declared.Reader.{Reader}
-use Rattle.samples.specs.declared.Answer.the-variants.{Nothing}
 use Rattle.samples.specs.Answers.{early, late}
 use Rattle.samples.specs.Reading.{freshOf, gives, goesOn, bitOf, middleOf, nextOf, waitedOf, stepOf}
 use Rattle.samples.specs.Run.{answersOf, afterOf}
-use Rattle.samples.specs.Edges.{levelOf, Stretch, plain, crossed, Allowed, AllAllowed, turned, levelAfter, stretchSamples, stretchesSamples, signalOf, lineOf, edgeBits, numberFrom}
+use Rattle.samples.specs.Edges.{levelOf, Stretch, plain, crossed, Allowed, AllAllowed, turned, levelAfter, stretchSamples, stretchesSamples, lineOf, edgeBits, numberFrom}
 use Rattle.samples.proofs.Cases.{idle-enough, first-edge, start-on, start-middle, no-edge, other-edge, middle-edge, second-other, before-8, past-14, too-late, next-bit, bit-small, a-sample}
 use Rattle.samples.proofs.Runs.{Quiet, stay, join, one}
 
@@ -100,7 +99,7 @@ leg k w a (crossed e d) h =
     rw z at (join (one (levelOf (not a)) (at-other k w (e - 1) a (omega arith) (omega arith))) (hold k w true (not a) (d - e - 1) (e - 1 + 1) (omega arith))) in
     join p (rw y q)
 
-not-not : (a : Bool) → not (not a) ≡ a
+pub not-not : (a : Bool) → not (not a) ≡ a
 not-not true = refl
 not-not false = refl
 
@@ -189,6 +188,14 @@ module _ (n s : ℕ) (l : List Stretch) (gs : 8 ≤ s) (hs : s ≤ 14) (hl : All
   quiet-line =
       let q = join (idle n) (join (start-bit s gs hs) (stretches 1 0 false l hl (omega arith))) in
       rw (append-assoc (replicate s 1) (0 ∷ []) (stretchesSamples false l)) at q
+
+pub level-last : (a : Bool) (l : List Stretch) (t : Stretch) → levelAfter a (l ++ (t ∷ [])) ≡ turned (levelAfter a l) t
+level-last a [] t = refl
+level-last a (u ∷ l) t = level-last (turned a u) l t
+
+pub all-allowed : (l r : List Stretch) → AllAllowed l → AllAllowed r → AllAllowed (l ++ r)
+all-allowed [] r hl hr = hr
+all-allowed (t ∷ l) r hl hr = (hl .0, all-allowed l r (hl .1) hr)
 
 stretches-last : (a : Bool) (l : List Stretch) (t : Stretch) → stretchesSamples a (l ++ (t ∷ [])) ≡ stretchesSamples a l ++ stretchSamples (levelAfter a l) t
 stretches-last a [] t = append-nil (stretchSamples a t)

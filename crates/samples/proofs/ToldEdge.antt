@@ -14,20 +14,12 @@ use Rattle.samples.specs.Answers.{frame}
 use Rattle.samples.specs.Reading.{gives, goesOn, pastEdge, middleOf, stepOf}
 use Rattle.samples.specs.Edges.{levelOf, Stretch, plain, crossed, Allowed, AllAllowed, turned, levelAfter, lineOf, wordOf}
 use Rattle.samples.proofs.Cases.{next-bit, stop-rises, stop-falls}
-use Rattle.samples.proofs.Stretches.{mid, legSamples, afterLeg, legEnd, leg-last, leg-edge, shift, shiftedBy, word-after, line-last}
+use Rattle.samples.proofs.Stretches.{level-last, all-allowed, mid, legSamples, afterLeg, legEnd, leg-last, leg-edge, shift, shiftedBy, word-after, line-last}
 use Rattle.samples.proofs.Told.{follows, Next, goes, refuses, ends, behind}
-
-level-last : (a : Bool) (l : List Stretch) (t : Stretch) → levelAfter a (l ++ (t ∷ [])) ≡ turned (levelAfter a l) t
-level-last a [] t = refl
-level-last a (u ∷ l) t = level-last (turned a u) l t
 
 shifted-last : (w : ℕ) (a : Bool) (l : List Stretch) (t : Stretch) → shiftedBy w a (l ++ (t ∷ [])) ≡ shift (shiftedBy w a l) (turned (levelAfter a l) t)
 shifted-last w a [] t = refl
 shifted-last w a (u ∷ l) t = shifted-last (shift w (turned a u)) (turned a u) l t
-
-allowed-last : (l : List Stretch) (t : Stretch) → AllAllowed l → Allowed t → AllAllowed (l ++ (t ∷ []))
-allowed-last [] t h g = (g, tt)
-allowed-last (u ∷ l) t h g = (h .0, allowed-last l t (h .1) g)
 
 word-last : (l : List Stretch) (t : Stretch) → length l < 32 → wordOf (l ++ (t ∷ [])) ≡ shift (wordOf l) (turned (levelAfter false l) t)
 word-last l t h =
@@ -100,7 +92,7 @@ module _ (h b : List ℕ) (s : ℕ) (l : List Stretch) (t : Stretch) (hs : (8 �
       go (yes g) =
           goes h x y (Bits (pastEdge (1 + length l + 1) (shift (wordOf l) (turned c t)) (turned c t)))
           (edge ∙ next (1 + length l) (wordOf l) t (turned c t) (omega arith))
-          (follows b s (l ++ (t ∷ [])) (plain 1) hs (allowed-last l t hl ht) (let n = length-append l (t ∷ []) in omega arith) (omega arith, omega arith)
+          (follows b s (l ++ (t ∷ [])) (plain 1) hs (all-allowed l (t ∷ []) hl (ht, tt)) (let n = length-append l (t ∷ []) in omega arith) (omega arith, omega arith)
           (longer ∙ ap (λ (z : List ℕ). b ++ z) (sym (append-nil (lineOf 0 s (l ++ (t ∷ []))))))
           (reader g))
       go (no g) = last (omega arith) (turned c t) refl

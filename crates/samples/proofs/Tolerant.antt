@@ -1,13 +1,12 @@
 -- Errors don't add up: samples whose middle edges keep to 01's distances, each from the one before, are read as the word of those
 -- edges, whatever their total length.
 -- Assumes nothing.
-use mathlib.Core.Path.{_≡_, refl, sym, ap, ap₂, _∙_}
+use mathlib.Core.Path.{_≡_, refl, sym, ap, _∙_}
 use mathlib.Core.Bool.{Bool, true, false, cond}
 use mathlib.Core.List.{List, [], _∷_, _++_, append-assoc}
 use Prim.Native.Nat.{ℕ, _+_, _-_, _≤_}
 use native.Mathlib.Omega.{arith}
 use lib.ListN.{length, length-append}
-use Rattle.samples.specs.declared.Answer.{Answer}
 use Rattle.samples.specs.Answers.{frame, no-stop}
 use Rattle.samples.specs.Reading.{freshOf, gives, middleOf, stepOf}
 use Rattle.samples.specs.Run.{answersOf, afterOf, none, Last}

@@ -1,7 +1,7 @@
 -- The tried distances as whole runs of a fresh reader, computed: P11 for the table of P cases, and the start edge at 14 and 15 and a
 -- middle edge at 24. Bounds has the same wherever in a frame, proved.
 -- Assumes nothing.
-use mathlib.Core.Path.{_≡_, refl}
+use mathlib.Core.Path.{refl}
 use mathlib.Core.List.{List, [], _∷_, _++_}
 use Prim.Native.Nat.{ℕ}
 use lib.ListN.{replicate}
@@ -9,7 +9,7 @@ use Rattle.samples.specs.declared.Answer.{Answer}
 use Rattle.samples.specs.Answers.{early, late, frame}
 use Rattle.samples.specs.Reading.{waitedOf, startOf, middleOf, nextOf, stepOf}
 use Rattle.samples.specs.Run.{answersOf, Last}
-use Rattle.samples.specs.Edges.{Stretch, plain, crossed, lineOf}
+use Rattle.samples.specs.Edges.{plain, crossed, lineOf}
 
 -- samples, and the one answer that they give, at their last
 pub data Try : Type 0 where

@@ -2,14 +2,13 @@
 -- Assumes nothing.
 use denote.Ref.{now}
 use Rattle.samples.proofs.Places.{one-more, all-written}
-use mathlib.Core.Path.{_≡_, refl, sym, ap, _∙_}
-use mathlib.Core.List.{List}
-use Prim.Native.Nat.{ℕ, _-_, _≤_, _<_}
+use mathlib.Core.Path.{_≡_, refl}
+use Prim.Native.Nat.{_-_, _≤_, _<_}
 use native.Mathlib.Omega.{arith}
 use borrow.Author.Needs.{needs}
 use borrow.Author.Tests.{lt-ltb, le-ltb}
-use lib.ListN.{length, set, length-set}
-use lib.Seq.{paste, paste-zero, paste-suc}
+use lib.ListN.{length, length-set}
+use lib.Seq.{paste, paste-zero}
 use Rattle.samples.specs.Written.{samplesOf}
 use Rattle.samples.proofs.writing.write.Statement.{statement}
 use Rattle.samples.proofs.writing.write.Tie as tie
