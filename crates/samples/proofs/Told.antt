@@ -25,6 +25,9 @@ abbrev pub Open : Stretch → Type 0
 Open (plain d) = (1 ≤ d) × (d ≤ 24)
 Open (crossed e d) = (8 ≤ e) × (e ≤ 14) × (e < d) × (d ≤ 24)
 
+-- the samples h came since the last answer, and the reader is r: it waits, and they end with n idle ones; it is in the start bit, and
+-- they end with 24 idle and d + 1 active ones; or it is past a middle edge, and they end with a line at 01's distances and what has come
+-- of the stretch t
 pub data Told (h : List ℕ) (r : Reader) : Type 0 where
   waits : (b : List ℕ) (n : ℕ) → n ≤ 24 → h ≡ b ++ replicate n 0 → r ≡ record { phase = Waiting n } → Told h r
   starts : (b : List ℕ) (d : ℕ) → h ≡ b ++ (replicate 24 0 ++ replicate (d + 1) 1) → r ≡ starting d → Told h r
