@@ -3,7 +3,7 @@ ghost use Prim.Native.Nat.{_≤_};
 ghost use lib.ListN.{length};
 
 // The longest line: 20 digits, ` frame `, 8 digits, a line end.
-pub const LONGEST: usize = 36;
+pub(crate) const LONGEST: usize = 36;
 
 // Puts text into room from `at` on, as far as there is room, and answers where it ends.
 fn put(room: &mut [u8], at: usize, text: &[u8]) -> usize
@@ -56,7 +56,7 @@ fn put_word(room: &mut [u8], at: usize, word: u32) -> usize
     put(room, at, &big)
 }
 
-pub fn put_frame(room: &mut [u8], at: usize, index: u64, word: u32) -> usize
+pub(crate) fn put_frame(room: &mut [u8], at: usize, index: u64, word: u32) -> usize
     requires { ⌜ at ≤ length (now room) ⌝ }
     ensures { λ r. ⌜ r ≤ length (now (room .exit)) ⌝ }
 {
@@ -66,7 +66,7 @@ pub fn put_frame(room: &mut [u8], at: usize, index: u64, word: u32) -> usize
     put(room, c, b"\n")
 }
 
-pub fn put_refused(room: &mut [u8], at: usize, index: u64, number: u8) -> usize
+pub(crate) fn put_refused(room: &mut [u8], at: usize, index: u64, number: u8) -> usize
     requires { ⌜ at ≤ length (now room) ⌝ }
     ensures { λ r. ⌜ r ≤ length (now (room .exit)) ⌝ }
 {
