@@ -1,0 +1,18 @@
+-- The laws of reading and writing samples, and the promises: ReadBack and Again (what is written is read; nothing older than the last
+-- answer is kept), Tolerant (errors don't add up), Only (nothing else is read), Bounds and Tried (P11 and the other bounds), Room (a
+-- lent room), Determined (no contract leaves anything open).
+pub mod Cases
+pub mod Steps
+pub mod Runs
+pub mod Stretches
+pub mod Tolerant
+pub mod Places
+pub mod Room
+pub mod ReadBack
+pub mod Again
+pub mod Told
+pub mod ToldEdge
+pub mod Only
+pub mod Bounds
+pub mod Tried
+pub mod Determined

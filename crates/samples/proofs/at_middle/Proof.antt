@@ -1,0 +1,64 @@
+-- A middle edge: the next bit, or the end of the frame.
+-- Assumes nothing.
+use mathlib.Core.Path.{sym, ap, _∙_}
+use Prim.Native.Nat.{ℕ, _+_}
+use native.Mathlib.Omega.{arith}
+use Rattle.samples.specs.declared.Phase.the-variants.{Bits}
+use Rattle.samples.specs.Reading.{goesOn, pastEdge}
+use Rattle.samples.proofs.Cases.{stop-rises, stop-falls, next-bit, bit-small, shifted}
+use borrow.Author.Needs.{needs}
+use Rattle.samples.proofs.at_middle.Statement.{statement}
+use Rattle.samples.proofs.at_middle.Tie as tie
+
+sub-if1 : tie.Need-sub-if1
+sub-if1 c = search needs
+
+answered-requires : tie.Need-answered-requires
+answered-requires c κs = search needs
+
+returns : tie.Need-returns
+returns c = c .answered .ensures ∙ sym (stop-rises _ _ (omega arith) (search needs))
+
+answered-requires-2 : tie.Need-answered-requires-2
+answered-requires-2 c κs = search needs
+
+returns-2 : tie.Need-returns-2
+returns-2 c = c .answered2 .ensures ∙ sym (stop-falls _ _ (omega arith) (search needs))
+
+bit-of-requires : tie.Need-bit-of-requires
+bit-of-requires c κs = search needs
+
+add-past-edge : tie.Need-add-past-edge
+add-past-edge c = search needs
+
+mul-past-edge : tie.Need-mul-past-edge
+mul-past-edge c = search needs
+
+add-past-edge-2 : tie.Need-add-past-edge-2
+add-past-edge-2 c = omega (arith, c .before .before .bit-of .ensures, bit-small (c .before .before .before .before .before .args .active))
+
+past-edge-requires : tie.Need-past-edge-requires
+past-edge-requires c κs = search needs
+
+returns-3 : tie.Need-returns-3
+returns-3 c =
+    let a = c .before .before .before .before .before .before .args in
+    c .past-edge .ensures
+    ∙ ap (λ (w : ℕ). goesOn (Bits (pastEdge (a .m .edges + 1) w (a .active)))) (shifted (a .active) (a .m .word) _ (c .before .before .before .bit-of .ensures))
+    ∙ sym (next-bit _ _ (omega arith))
+
+pub at-middle-spec : {M : Type 1} → statement M
+at-middle-spec =
+    tie.close
+    (tie.spec
+    sub-if1
+    answered-requires
+    returns
+    answered-requires-2
+    returns-2
+    bit-of-requires
+    add-past-edge
+    mul-past-edge
+    add-past-edge-2
+    past-edge-requires
+    returns-3)
