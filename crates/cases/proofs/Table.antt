@@ -5,6 +5,7 @@ use lib.Count.{onesIn}
 use lib.Ieee.{toBits, round}
 use Rattle.word.proofs.Worked.{built-is}
 use Rattle.values.specs.Real.{realOf}
+use Rattle.samples.proofs.Tried.{p11}
 use Rattle.cases.specs.Tried.{Tried}
 
 pub tried : Tried
@@ -21,4 +22,5 @@ tried =
       p6-is = (refl, refl);
       p7 = refl;
       p7-is = (refl, refl);
+      p11 = p11;
     }

@@ -8,6 +8,7 @@ use lib.Ieee.Exact.{HasValue}
 use Rattle.word.specs.declared.Built.the-variants.{Word}
 use Rattle.word.specs.Frame.{builtOf, read-data, write-data, unknown-dataid, data-invalid}
 use Rattle.values.specs.Real.{realOf}
+use Rattle.samples.specs.Tried.{Gives, p11-cases}
 
 pub record Tried : Type 0 where
   -- P1 READ-DATA 25, value 0: 80190000
@@ -27,3 +28,5 @@ pub record Tried : Type 0 where
   -- P7 8000 is -128, C3000000
   pub p7 : toBits binary32 (realOf 0x8000) ≡ 0xc300_0000
   pub p7-is : HasValue (realOf 0x8000) true 128 1
+  -- P11 a middle edge at 17 is refusal 1, at 18 and 23 good
+  pub p11 : Gives p11-cases

@@ -4,3 +4,4 @@ pub mod Reading
 pub mod Run
 pub mod Written
 pub mod Edges
+pub mod Tried

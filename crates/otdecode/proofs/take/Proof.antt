@@ -1,19 +1,16 @@
--- `take` is safe and ends: what is used of the room is at most its length, which stays; the measure is what is left of the block.
+-- `otdecode::take` is safe and ends: the measure is what is left of the block.
 -- Assumes nothing.
-use mathlib.Core.Path.{_≡_, sym}
-use Prim.Native.Nat.{_≤_, _-_}
-use native.Mathlib.Omega.{arith}
 use borrow.Author.Needs.{needs}
+use Prim.Native.Nat.{_-_}
 use lib.ListN.{length}
-use lib.Seq.{length-take-le}
 use Rattle.otdecode.proofs.take.Statement.{statement}
 use Rattle.otdecode.proofs.take.Tie as tie
 
 abbrev Inv-loop : tie.InvT-loop
-Inv-loop block room₀ reader₀ index₀ used₀ i₀ room reader index used i = (used ≤ length room) × (length room ≡ length room₀)
+Inv-loop block reader₀ index₀ i₀ reader index i = Unit {0}
 
 abbrev μ-loop : tie.MeasureT-loop
-μ-loop block room₀ reader₀ index₀ used₀ i₀ room reader index used i = length block - i
+μ-loop block reader₀ index₀ i₀ reader index i = length block - i
 
 loop-holds : tie.Need-loop-holds Inv-loop μ-loop
 loop-holds c = search needs
@@ -39,18 +36,6 @@ loop-less c = search needs
 loop-again : tie.Need-loop-again Inv-loop μ-loop
 loop-again c = search needs
 
-slice-reshare-prefix-write-all : tie.Need-slice-reshare-prefix-write-all Inv-loop μ-loop
-slice-reshare-prefix-write-all c = search needs
-
-slice-aggregate-write-all : tie.Need-slice-aggregate-write-all Inv-loop μ-loop
-slice-aggregate-write-all c = sym (length-take-le _ _ (omega arith))
-
-write-all-requires : tie.Need-write-all-requires Inv-loop μ-loop
-write-all-requires c κs = search needs
-
-same-length : tie.Need-same-length Inv-loop μ-loop
-same-length c = search needs
-
 returns : tie.Need-returns Inv-loop μ-loop
 returns c = search needs
 
@@ -68,8 +53,4 @@ take-spec =
     add-i
     loop-less
     loop-again
-    slice-reshare-prefix-write-all
-    slice-aggregate-write-all
-    write-all-requires
-    same-length
     returns)

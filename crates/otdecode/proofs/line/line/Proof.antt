@@ -1,0 +1,102 @@
+-- `otdecode::line::line` meets its contract: each answer's line, part by part.
+-- Assumes nothing.
+use borrow.Author.Needs.{needs}
+use Rattle.text.specs.Text.{puts}
+use Rattle.text.proofs.Puts.{puts-append, puts-last}
+use Rattle.otdecode.specs.Lines.{lineOf}
+use Rattle.otdecode.proofs.line.line.Statement.{statement}
+use Rattle.otdecode.proofs.line.line.Tie as tie
+
+enum-told : tie.Need-enum-told
+enum-told c = search needs
+
+empty-requires : tie.Need-empty-requires
+empty-requires c κs = search needs
+
+enum-known-answer : tie.Need-enum-known-answer
+enum-known-answer c = search needs
+
+empty-requires-2 : tie.Need-empty-requires-2
+empty-requires-2 c κs = search needs
+
+decimal-requires : tie.Need-decimal-requires
+decimal-requires c κs = search needs
+
+slice-aggregate-put : tie.Need-slice-aggregate-put
+slice-aggregate-put c = search needs
+
+put-requires : tie.Need-put-requires
+put-requires c κs = search needs
+
+hex-requires : tie.Need-hex-requires
+hex-requires c κs = search needs
+
+push-requires : tie.Need-push-requires
+push-requires c κs = search needs
+
+enum-known-answer-2 : tie.Need-enum-known-answer-2
+enum-known-answer-2 c = search needs
+
+empty-requires-3 : tie.Need-empty-requires-3
+empty-requires-3 c κs = search needs
+
+decimal-requires-2 : tie.Need-decimal-requires-2
+decimal-requires-2 c κs = search needs
+
+slice-aggregate-put-2 : tie.Need-slice-aggregate-put-2
+slice-aggregate-put-2 c = search needs
+
+put-requires-2 : tie.Need-put-requires-2
+put-requires-2 c κs = search needs
+
+cast-decimal : tie.Need-cast-decimal
+cast-decimal c = search needs
+
+decimal-requires-3 : tie.Need-decimal-requires-3
+decimal-requires-3 c κs = search needs
+
+push-requires-2 : tie.Need-push-requires-2
+push-requires-2 c κs = search needs
+
+returns : tie.Need-returns
+unfolding lineOf puts
+returns c = rw (c .before .enum-told .given .1) (c .empty .ensures)
+
+returns-2 : tie.Need-returns-2
+unfolding lineOf
+returns-2 c =
+    rw
+    (c .before .before .before .before .before .before .before .answer .given .1, puts-append, puts-append, puts-last, ← c .before .before .before .before .before .empty2 .ensures, ← c .before .before .before .before .decimal .ensures, ← c .before .before .put .ensures, ← c .before .hex .ensures)
+    (c .push .ensures)
+
+returns-3 : tie.Need-returns-3
+unfolding lineOf
+returns-3 c =
+    rw
+    (c .before .before .before .before .before .before .before .answer2 .given .1, puts-append, puts-append, puts-last, ← c .before .before .before .before .before .empty3 .ensures, ← c .before .before .before .before .decimal2 .ensures, ← c .before .before .put2 .ensures, ← c .before .decimal3 .ensures)
+    (c .push2 .ensures)
+
+pub line-spec : {M : Type 1} → statement M
+line-spec =
+    tie.close
+    (tie.spec
+    enum-told
+    empty-requires
+    enum-known-answer
+    empty-requires-2
+    decimal-requires
+    slice-aggregate-put
+    put-requires
+    hex-requires
+    push-requires
+    enum-known-answer-2
+    empty-requires-3
+    decimal-requires-2
+    slice-aggregate-put-2
+    put-requires-2
+    cast-decimal
+    decimal-requires-3
+    push-requires-2
+    returns
+    returns-2
+    returns-3)
