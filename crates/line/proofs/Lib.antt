@@ -1,0 +1,1 @@
+-- Why the line keeps its promises.

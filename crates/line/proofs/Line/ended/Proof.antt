@@ -1,0 +1,21 @@
+use borrow.Author.Needs.{needs}
+use Rattle.line.specs.Turns.{endedOf}
+use Rattle.line.proofs.Line.ended.Statement.{statement}
+use Rattle.line.proofs.Line.ended.Tie as tie
+
+enum-told : tie.Need-enum-told
+enum-told c = search needs
+
+enum-told-2 : tie.Need-enum-told-2
+enum-told-2 c = search needs
+
+returns : tie.Need-returns
+unfolding endedOf
+returns c = rw (c .enum-told .given .1)
+
+returns-2 : tie.Need-returns-2
+unfolding endedOf
+returns-2 c = rw (c .enum-told2 .given .1)
+
+pub ended-spec : {M : Type 1} → statement M
+ended-spec = tie.close (tie.spec enum-told enum-told-2 returns returns-2)

@@ -1,0 +1,11 @@
+use borrow.Author.Needs.{needs}
+use Rattle.line.specs.Turns.{wordOf}
+use Rattle.line.proofs.Line.word_for.Statement.{statement}
+use Rattle.line.proofs.Line.word_for.Tie as tie
+
+returns : tie.Need-returns
+unfolding wordOf
+returns c = search needs
+
+pub word-for-spec : {M : Type 1} → statement M
+word-for-spec = tie.close (tie.spec returns)
