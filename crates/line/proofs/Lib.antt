@@ -1,1 +1,5 @@
 -- Why the line keeps its promises.
+pub mod Moves
+pub mod Promise
+pub mod Life
+pub mod Demand3

@@ -143,7 +143,7 @@ answeredOf l Modbus since f = says (endedOf l Modbus) (Answer f since)
 answeredOf l Thermostat since f = says (endedOf l Thermostat) (cond (passesOf l since) (Passed f) Dropped)
 
 -- "A boiler frame that matches while the age is 84 to 874 ends the talk". "Order: .. 5, 6, 7, 8"
-abbrev boilerTurn : Line → Frame → Turn → Step
+abbrev pub boilerTurn : Line → Frame → Turn → Step
 boilerTurn l f (Rest r) = refusal l 7
 boilerTurn l f (Talk o q a since) =
     must (leb 84 a && leb a 874) l 7
