@@ -3,3 +3,6 @@ pub mod Moves
 pub mod Promise
 pub mod Life
 pub mod Demand3
+pub mod Shifts
+pub mod Relay
+pub mod Seat

@@ -67,15 +67,15 @@ pub deaf-tick : (q : Frame) (a : ℕ) → Deaf tick q a
 unfolding Deaf
 deaf-tick q a b e ma lo hi = let z : _≡_ {A = ℕ} 0 1 = cc in omega arith
 
-deaf-pass : (q : Frame) (a : ℕ) → Deaf pass q a
+pub deaf-pass : (q : Frame) (a : ℕ) → Deaf pass q a
 unfolding Deaf
 deaf-pass q a b e ma lo hi = let z : _≡_ {A = ℕ} 0 1 = cc in omega arith
 
-deaf-thermostat : (f q : Frame) (a : ℕ) → Deaf (thermostat f) q a
+pub deaf-thermostat : (f q : Frame) (a : ℕ) → Deaf (thermostat f) q a
 unfolding Deaf
 deaf-thermostat f q a b e ma lo hi = let z : _≡_ {A = ℕ} 0 1 = cc in omega arith
 
-deaf-order : (v : Question) (q : Frame) (a : ℕ) → Deaf (order v) q a
+pub deaf-order : (v : Question) (q : Frame) (a : ℕ) → Deaf (order v) q a
 unfolding Deaf
 deaf-order v q a b e ma lo hi = let z : _≡_ {A = ℕ} 0 1 = cc in omega arith
 

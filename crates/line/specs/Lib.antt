@@ -3,3 +3,4 @@ pub mod Turns
 pub mod Events
 pub mod Promise
 pub mod History
+pub mod Relay
