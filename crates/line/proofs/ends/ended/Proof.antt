@@ -1,7 +1,7 @@
 use borrow.Author.Needs.{needs}
 use Rattle.line.specs.Turns.{endedOf}
-use Rattle.line.proofs.Line.ended.Statement.{statement}
-use Rattle.line.proofs.Line.ended.Tie as tie
+use Rattle.line.proofs.ends.ended.Statement.{statement}
+use Rattle.line.proofs.ends.ended.Tie as tie
 
 enum-told : tie.Need-enum-told
 enum-told c = search needs

@@ -1,7 +1,7 @@
 use borrow.Author.Needs.{needs}
 use Rattle.line.specs.Turns.{after}
-use Rattle.line.proofs.after.Statement.{statement}
-use Rattle.line.proofs.after.Tie as tie
+use Rattle.line.proofs.start.after.Statement.{statement}
+use Rattle.line.proofs.start.after.Tie as tie
 
 enum-told : tie.Need-enum-told
 enum-told c = search needs

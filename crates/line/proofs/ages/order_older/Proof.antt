@@ -1,7 +1,7 @@
 use borrow.Author.Needs.{needs}
 use Rattle.line.specs.Turns.{orderOlder}
-use Rattle.line.proofs.order_older.Statement.{statement}
-use Rattle.line.proofs.order_older.Tie as tie
+use Rattle.line.proofs.ages.order_older.Statement.{statement}
+use Rattle.line.proofs.ages.order_older.Tie as tie
 
 enum-told : tie.Need-enum-told
 enum-told c = search needs

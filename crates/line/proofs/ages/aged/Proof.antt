@@ -1,7 +1,7 @@
 use borrow.Author.Needs.{needs}
 use Rattle.line.specs.Turns.{lineOlder}
-use Rattle.line.proofs.Line.aged.Statement.{statement}
-use Rattle.line.proofs.Line.aged.Tie as tie
+use Rattle.line.proofs.ages.aged.Statement.{statement}
+use Rattle.line.proofs.ages.aged.Tie as tie
 
 turn-older-requires : tie.Need-turn-older-requires
 turn-older-requires c κs = search needs

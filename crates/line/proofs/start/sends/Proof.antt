@@ -1,7 +1,7 @@
 use borrow.Author.Needs.{needs}
 use Rattle.line.specs.Turns.{sendsOf}
-use Rattle.line.proofs.Line.sends.Statement.{statement}
-use Rattle.line.proofs.Line.sends.Tie as tie
+use Rattle.line.proofs.start.sends.Statement.{statement}
+use Rattle.line.proofs.start.sends.Tie as tie
 
 enum-told : tie.Need-enum-told
 enum-told c = search needs

@@ -1,7 +1,7 @@
 use borrow.Author.Needs.{needs}
 use Rattle.line.specs.Turns.{startOf}
-use Rattle.line.proofs.Line.start.Statement.{statement}
-use Rattle.line.proofs.Line.start.Tie as tie
+use Rattle.line.proofs.start.start.Statement.{statement}
+use Rattle.line.proofs.start.start.Tie as tie
 
 after-requires : tie.Need-after-requires
 after-requires c κs = search needs

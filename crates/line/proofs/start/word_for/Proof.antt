@@ -1,7 +1,7 @@
 use borrow.Author.Needs.{needs}
 use Rattle.line.specs.Turns.{wordOf}
-use Rattle.line.proofs.Line.word_for.Statement.{statement}
-use Rattle.line.proofs.Line.word_for.Tie as tie
+use Rattle.line.proofs.start.word_for.Statement.{statement}
+use Rattle.line.proofs.start.word_for.Tie as tie
 
 returns : tie.Need-returns
 unfolding wordOf

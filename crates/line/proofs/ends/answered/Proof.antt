@@ -1,8 +1,8 @@
 use borrow.Author.Tests.{eq-eqb}
 use borrow.Author.Needs.{needs}
 use Rattle.line.specs.Turns.{answeredOf}
-use Rattle.line.proofs.Line.answered.Statement.{statement}
-use Rattle.line.proofs.Line.answered.Tie as tie
+use Rattle.line.proofs.ends.answered.Statement.{statement}
+use Rattle.line.proofs.ends.answered.Tie as tie
 
 ended-requires : tie.Need-ended-requires
 ended-requires c κs = search needs

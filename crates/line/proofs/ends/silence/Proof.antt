@@ -1,7 +1,7 @@
 use borrow.Author.Needs.{needs}
 use Rattle.line.specs.Turns.{silenceOf}
-use Rattle.line.proofs.Line.silence.Statement.{statement}
-use Rattle.line.proofs.Line.silence.Tie as tie
+use Rattle.line.proofs.ends.silence.Statement.{statement}
+use Rattle.line.proofs.ends.silence.Tie as tie
 
 ended-requires : tie.Need-ended-requires
 ended-requires c κs = search needs

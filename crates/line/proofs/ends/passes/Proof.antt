@@ -1,7 +1,7 @@
 use borrow.Author.Needs.{needs}
 use Rattle.line.specs.Turns.{passesOf}
-use Rattle.line.proofs.Line.passes.Statement.{statement}
-use Rattle.line.proofs.Line.passes.Tie as tie
+use Rattle.line.proofs.ends.passes.Statement.{statement}
+use Rattle.line.proofs.ends.passes.Tie as tie
 
 enum-told : tie.Need-enum-told
 enum-told c = search needs

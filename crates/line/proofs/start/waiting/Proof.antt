@@ -1,7 +1,7 @@
 use borrow.Author.Needs.{needs}
 use Rattle.line.specs.Turns.{waitingOf}
-use Rattle.line.proofs.Line.waiting.Statement.{statement}
-use Rattle.line.proofs.Line.waiting.Tie as tie
+use Rattle.line.proofs.start.waiting.Statement.{statement}
+use Rattle.line.proofs.start.waiting.Tie as tie
 
 enum-told : tie.Need-enum-told
 enum-told c = search needs

@@ -1,7 +1,7 @@
 use borrow.Author.Needs.{needs}
 use Rattle.line.specs.Turns.{turnOlder}
-use Rattle.line.proofs.turn_older.Statement.{statement}
-use Rattle.line.proofs.turn_older.Tie as tie
+use Rattle.line.proofs.ages.turn_older.Statement.{statement}
+use Rattle.line.proofs.ages.turn_older.Tie as tie
 
 enum-known-turn : tie.Need-enum-known-turn
 enum-known-turn c = search needs
