@@ -6,3 +6,5 @@ pub mod Demand3
 pub mod Shifts
 pub mod Relay
 pub mod Seat
+pub mod Tried
+mod Determined

@@ -4,3 +4,4 @@ pub mod Events
 pub mod Promise
 pub mod History
 pub mod Relay
+pub mod Cases
