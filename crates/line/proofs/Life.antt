@@ -21,7 +21,7 @@ use Rattle.line.specs.declared.Slot.{Slot}
 use Rattle.line.specs.declared.Slot.the-variants.{Empty, Full}
 use Rattle.line.specs.declared.Order.{Order}
 use Rattle.line.specs.declared.Order.the-variants.{Nothing, Waits}
-use Rattle.line.specs.Turns.{older, heldOlder, orderOlder, turnOlder, lineOlder, wordOf, waitingOf, sendsOf, after, startOf, restsOf, endedOf, silenceOf, talksOf, tickOf, refusal, must, thermostatOf, passesOf, answeredOf, boilerTurn, boilerOf, underWay, orderOf, says, turned}
+use Rattle.line.specs.Turns.{earliest, latest, silence, full-rest, older, heldOlder, orderOlder, turnOlder, lineOlder, wordOf, waitingOf, sendsOf, after, startOf, restsOf, endedOf, silenceOf, talksOf, tickOf, refusal, must, thermostatOf, passesOf, answeredOf, boilerTurn, boilerOf, underWay, orderOf, says, turned}
 use Rattle.line.specs.Events.{Event, pass, tick, thermostat, boiler, order, beat, Note, nothing, refused, noteOf}
 use Rattle.line.specs.History.{doOf, Own}
 use Rattle.line.proofs.Moves.{Life, none, waits, talks, Deaf, Unasked, Other, Move, idle, takes, wait, send, talk, over, hear}
@@ -85,16 +85,16 @@ unfolding Deaf
 deaf-by f q a off b e ma lo hi = let is : f ≡ b = cc in off (rw is ma) lo hi
 
 -- a tick of rest
-tick-rest : (r : ℕ) (h : Slot) (o : Order) (l : Talker) (t : Bool) → ltb (older r) 100 ≡ t →
+tick-rest : (r : ℕ) (h : Slot) (o : Order) (l : Talker) (t : Bool) → ltb (older r) full-rest ≡ t →
     let L : Line = record { turn = Rest r; held = heldOlder h; order = orderOlder o; last = l } in
-    Moves tick (lifeOf (Rest r) o l) (cond t (says (turned L (Rest (older r))) Quiet) (startOf (turned L (Rest 100))))
+    Moves tick (lifeOf (Rest r) o l) (cond t (says (turned L (Rest (older r))) Quiet) (startOf (turned L (Rest full-rest))))
 unfolding heldOlder orderOlder startOf waitingOf sendsOf after wordOf
 tick-rest r h Nothing l true e = idle (omega arith) tick-unasked
 tick-rest r h (Waits w u) Thermostat true e =
-    let lt = ltb-true (older r) 100 e in
+    let lt = ltb-true (older r) full-rest e in
     wait w u (left (Rest r) Thermostat) (older u) (left (Rest (older r)) Thermostat) (omega arith) (λ s. omega arith) (omega arith) (omega arith)
 tick-rest r h (Waits w u) Modbus true e =
-    let lt = ltb-true (older r) 100 e in
+    let lt = ltb-true (older r) full-rest e in
     wait w u (left (Rest r) Modbus) (older u) (left (Rest (older r)) Modbus) (omega arith) (λ s. omega arith) (omega arith) (omega arith)
 tick-rest r Empty Nothing Thermostat false e = idle (omega arith) tick-unasked
 tick-rest r Empty Nothing Modbus false e = idle (omega arith) tick-unasked
@@ -109,28 +109,28 @@ tick-rest r (Full f t) (Waits w u) Thermostat false e =
 tick-rest r (Full f t) (Waits w u) Modbus false e = wait w u (left (Rest r) Modbus) (older u) 1850 (omega arith) (λ s. omega arith) (omega arith) (omega arith)
 
 -- a tick of a talk
-tick-talk : (q : Frame) (a u : ℕ) (h : Slot) (o : Order) (own l : Talker) (t : Bool) → ltb (older a) 875 ≡ t →
+tick-talk : (q : Frame) (a u : ℕ) (h : Slot) (o : Order) (own l : Talker) (t : Bool) → ltb (older a) silence ≡ t →
     let L : Line = record { turn = Talk own q a (older u); held = heldOlder h; order = orderOlder o; last = l } in
     Moves tick (lifeOf (Talk own q a u) o l) (cond t (says (turned L (Talk own q (older a) (older u))) Quiet) (silenceOf L own (older u)))
 unfolding heldOlder orderOlder silenceOf endedOf
 tick-talk q a u h Nothing Thermostat l true e = idle (omega arith) tick-unasked
 tick-talk q a u h Nothing Thermostat l false e = idle (omega arith) tick-unasked
 tick-talk q a u h (Waits w x) Thermostat l true e =
-    let lt = ltb-true (older a) 875 e in
+    let lt = ltb-true (older a) silence e in
     wait w x (left (Talk Thermostat q a u) l) (older x) (left (Talk Thermostat q (older a) (older u)) l) (omega arith) (λ s. omega arith) (omega arith) (omega arith)
 tick-talk q a u h (Waits w x) Thermostat l false e =
     wait w x (left (Talk Thermostat q a u) l) (older x) 975 (omega arith) (λ s. omega arith) (omega arith) (omega arith)
 tick-talk q a u h o Modbus l true e =
-    let lt = ltb-true (older a) 875 e in
+    let lt = ltb-true (older a) silence e in
     talk q a u (older a) (older u) (omega arith) (λ s. omega arith) (λ s. omega arith) (λ s. omega arith) (deaf-tick q a)
 tick-talk q a u h o Modbus l false e =
-    let le = ltb-false (older a) 875 e in
+    let le = ltb-false (older a) silence e in
     over q a u (older u) refl refl (λ s. omega arith) (omega arith)
 
 tick-turn : (t : Turn) (h : Slot) (o : Order) (l : Talker) → Moves tick (lifeOf t o l) (tickOf (record { turn = t; held = h; order = o; last = l }))
 unfolding tickOf lineOlder turnOlder restsOf talksOf
-tick-turn (Rest r) h o l = tick-rest r h o l (ltb (older r) 100) refl
-tick-turn (Talk own q a u) h o l = tick-talk q a u h o own l (ltb (older a) 875) refl
+tick-turn (Rest r) h o l = tick-rest r h o l (ltb (older r) full-rest) refl
+tick-turn (Talk own q a u) h o l = tick-talk q a u h o own l (ltb (older a) silence) refl
 
 -- An event that is no tick, and of which nothing is said to an order, leaves a life as it is: if it is no answer to a talk, and no order where there is none.
 abbrev Idle : Event → Life → Type 0
@@ -202,14 +202,14 @@ move-ends Thermostat q a u h (Waits w x) l f ma lo hi =
     (λ _. omega arith) (omega arith) (omega arith)
 
 boiler-talk : (own : Talker) (q : Frame) (a u : ℕ) (h : Slot) (o : Order) (l : Talker) (f : Frame) (x y z : Bool) →
-    leb 84 a ≡ x → leb a 874 ≡ y → matchesOf (q .word) (f .word) ≡ z →
+    leb earliest a ≡ x → leb a latest ≡ y → matchesOf (q .word) (f .word) ≡ z →
     let L : Line = record { turn = Talk own q a u; held = h; order = o; last = l } in
     Moves (boiler f) (lifeOf (Talk own q a u) o l) (must (x && y) L 7 (must z L 8 (answeredOf L own u f)))
 unfolding refusal
-boiler-talk own q a u h o l f true true true ex ey ez = move-ends own q a u h o l f ez (leb-true 84 a ex) (leb-true a 874 ey)
+boiler-talk own q a u h o l f true true true ex ey ez = move-ends own q a u h o l f ez (omega (arith, leb-true earliest a ex)) (omega (arith, leb-true a latest ey))
 boiler-talk own q a u h o l f true true false ex ey ez = unheard f 8 own q a u o l (deaf-by f q a (λ m lo hi. let t : _≡_ {A = ℕ} 0 1 = cc in omega arith))
-boiler-talk own q a u h o l f true false z ex ey ez = unheard f 7 own q a u o l (deaf-by f q a (λ m lo hi. omega (arith, leb-false a 874 ey)))
-boiler-talk own q a u h o l f false y z ex ey ez = unheard f 7 own q a u o l (deaf-by f q a (λ m lo hi. omega (arith, leb-false 84 a ex)))
+boiler-talk own q a u h o l f true false z ex ey ez = unheard f 7 own q a u o l (deaf-by f q a (λ m lo hi. omega (arith, leb-false a latest ey)))
+boiler-talk own q a u h o l f false y z ex ey ez = unheard f 7 own q a u o l (deaf-by f q a (λ m lo hi. omega (arith, leb-false earliest a ex)))
 
 boiler-turn : (t : Turn) (h : Slot) (o : Order) (l : Talker) (f : Frame) →
     Moves (boiler f) (lifeOf t o l) (boilerTurn (record { turn = t; held = h; order = o; last = l }) f t)
@@ -217,7 +217,7 @@ unfolding refusal
 boiler-turn (Rest r) h Nothing l f = idle (omega arith) (boiler-unasked f)
 boiler-turn (Rest r) h (Waits w u) Thermostat f = same (boiler f) _ (waits w u (left (Rest r) Thermostat)) refl (omega arith) (omega arith)
 boiler-turn (Rest r) h (Waits w u) Modbus f = same (boiler f) _ (waits w u (left (Rest r) Modbus)) refl (omega arith) (omega arith)
-boiler-turn (Talk own q a u) h o l f = boiler-talk own q a u h o l f (leb 84 a) (leb a 874) (matchesOf (q .word) (f .word)) refl refl refl
+boiler-turn (Talk own q a u) h o l f = boiler-talk own q a u h o l f (leb earliest a) (leb a latest) (matchesOf (q .word) (f .word)) refl refl refl
 
 move-boiler : (l : Line) (f : Frame) (p q : Bool) → evenOf (f .word) ≡ p → leb 4 (typeOf (f .word)) ≡ q →
     Moves (boiler f) (life l) (must p l 5 (must q l 6 (boilerTurn l f (l .turn))))

@@ -21,7 +21,7 @@ use Rattle.line.specs.declared.Slot.{Slot}
 use Rattle.line.specs.declared.Slot.the-variants.{Empty, Full}
 use Rattle.line.specs.declared.Order.{Order}
 use Rattle.line.specs.declared.Order.the-variants.{Nothing, Waits}
-use Rattle.line.specs.Turns.{older, heldOlder, orderOlder, turnOlder, lineOlder, wordOf, waitingOf, sendsOf, after, startOf, restsOf, endedOf, silenceOf, talksOf, tickOf, refusal, must, thermostatOf, passesOf, answeredOf, boilerTurn, boilerOf, underWay, orderOf, says, turned}
+use Rattle.line.specs.Turns.{earliest, latest, silence, full-rest, patience, older, heldOlder, orderOlder, turnOlder, lineOlder, wordOf, waitingOf, sendsOf, after, startOf, restsOf, endedOf, silenceOf, talksOf, tickOf, refusal, must, thermostatOf, passesOf, answeredOf, boilerTurn, boilerOf, underWay, orderOf, says, turned}
 use Rattle.line.specs.Events.{Event, pass, tick, thermostat, boiler, order, beat, Note, nothing, dropped, accepted, exception, sent, answer, no-answer, refused, noteOf, about, accepts, Events}
 use Rattle.line.specs.Relay.{Relay}
 use Rattle.line.specs.History.{doOf, lineAt, saidAt, notes}
@@ -59,7 +59,7 @@ same-keeps e (Full f t) z = one f t t (λ le. omega arith)
 -- a tick of rest
 tick-rest : (r : ℕ) (h : Slot) (o : Order) (l : Talker) (t : Bool) →
     let L : Line = record { turn = Rest r; held = heldOlder h; order = orderOlder o; last = l } in
-    Shifts tick (Rest r) h (cond t (says (turned L (Rest (older r))) Quiet) (startOf (turned L (Rest 100))))
+    Shifts tick (Rest r) h (cond t (says (turned L (Rest (older r))) Quiet) (startOf (turned L (Rest full-rest))))
 unfolding heldOlder orderOlder startOf waitingOf sendsOf after wordOf
 tick-rest r h o l true = rest h (mute nothing refl) (older-keeps h)
 tick-rest r Empty Nothing Thermostat false = rest Empty (mute nothing refl) none
@@ -72,21 +72,21 @@ tick-rest r (Full f t) (Waits w u) Thermostat false = rest (Full f t) (mute-orde
 tick-rest r (Full f t) (Waits w u) Modbus false = go f t (older t) refl refl (λ le. omega arith)
 
 -- a tick of a talk
-tick-talk : (q : Frame) (a u : ℕ) (h : Slot) (o : Order) (own l : Talker) (t : Bool) → ltb (older a) 875 ≡ t →
+tick-talk : (q : Frame) (a u : ℕ) (h : Slot) (o : Order) (own l : Talker) (t : Bool) → ltb (older a) silence ≡ t →
     let L : Line = record { turn = Talk own q a (older u); held = heldOlder h; order = orderOlder o; last = l } in
     Shifts tick (Talk own q a u) h (cond t (says (turned L (Talk own q (older a) (older u))) Quiet) (silenceOf L own (older u)))
 unfolding silenceOf endedOf
 tick-talk q a u h o Thermostat l true e =
-    let lt = ltb-true (older a) 875 e in
+    let lt = ltb-true (older a) silence e in
     talk q a u (older a) (older u) (mute nothing refl) (older-keeps h) (λ s. omega arith) (λ s. omega arith) (λ s. omega arith) (deaf-tick q a)
-tick-talk q a u h o Thermostat l false e = let le = ltb-false (older a) 875 e in over q a u refl (mute nothing refl) (older-keeps h) (omega arith)
+tick-talk q a u h o Thermostat l false e = let le = ltb-false (older a) silence e in over q a u refl (mute nothing refl) (older-keeps h) (omega arith)
 tick-talk q a u h o Modbus l true e = rest h (mute nothing refl) (older-keeps h)
 tick-talk q a u h o Modbus l false e = rest h (mute-order (no-answer (older u)) (omega arith)) (older-keeps h)
 
 tick-turn : (t : Turn) (h : Slot) (o : Order) (l : Talker) → Shifts tick t h (tickOf (record { turn = t; held = h; order = o; last = l }))
 unfolding tickOf lineOlder turnOlder restsOf talksOf
-tick-turn (Rest r) h o l = tick-rest r h o l (ltb (older r) 100)
-tick-turn (Talk own q a u) h o l = tick-talk q a u h o own l (ltb (older a) 875) refl
+tick-turn (Rest r) h o l = tick-rest r h o l (ltb (older r) full-rest)
+tick-turn (Talk own q a u) h o l = tick-talk q a u h o own l (ltb (older a) silence) refl
 
 -- an event that is no tick, and of which nothing is said to the thermostat, leaves its part as it is, if it is no answer to it
 abbrev DeafTo : Event → Turn → Type 0
@@ -120,13 +120,13 @@ shift-order l w true = stays (order w) (exception 6) (l .turn) (l .held) refl (m
 shift-order l w false = stays (order w) accepted (l .turn) (l .held) refl (mute-order accepted (omega arith)) (deaf-to (order w) (l .turn) (deaf-order w))
 
 -- a boiler frame that ends a talk
-shift-ends : (own : Talker) (q : Frame) (a u : ℕ) (h : Slot) (o : Order) (l : Talker) (f : Frame) (t : Bool) → matchesOf (q .word) (f .word) ≡ true → 84 ≤ a → a ≤ 874 → leb u 800 ≡ t →
+shift-ends : (own : Talker) (q : Frame) (a u : ℕ) (h : Slot) (o : Order) (l : Talker) (f : Frame) (t : Bool) → matchesOf (q .word) (f .word) ≡ true → 84 ≤ a → a ≤ 874 → leb u patience ≡ t →
     let L : Line = record { turn = Talk own q a u; held = h; order = o; last = l } in
     Shifts (boiler f) (Talk own q a u) h (answeredOf L own u f)
 unfolding answeredOf endedOf passesOf
 shift-ends Modbus q a u h o l f t ma lo hi e = rest h (mute-order (answer f u) (omega arith)) (same-keeps (boiler f) h refl)
-shift-ends Thermostat q a u Empty o l f true ma lo hi e = rw e (hear q a u f refl refl ma lo hi (leb-true u 800 e))
-shift-ends Thermostat q a u Empty o l f false ma lo hi e = rw e (drop Empty q a u f refl (mute dropped refl) ma lo hi (leb-false u 800 e))
+shift-ends Thermostat q a u Empty o l f true ma lo hi e = rw e (hear q a u f refl refl ma lo hi (leb-true u patience e))
+shift-ends Thermostat q a u Empty o l f false ma lo hi e = rw e (drop Empty q a u f refl (mute dropped refl) ma lo hi (leb-false u patience e))
 shift-ends Thermostat q a u (Full g x) o l f t ma lo hi e = drop (Full g x) q a u f refl (mute dropped refl) ma lo hi tt
 
 -- a boiler frame that is refused
@@ -136,21 +136,21 @@ unheard Thermostat q a u h f n d = stays (boiler f) (refused n) (Talk Thermostat
 unheard Modbus q a u h f n d = stays (boiler f) (refused n) (Talk Modbus q a u) h refl (mute (refused n) refl) tt
 
 boiler-talk : (own : Talker) (q : Frame) (a u : ℕ) (h : Slot) (o : Order) (l : Talker) (f : Frame) (x y z : Bool) →
-    leb 84 a ≡ x → leb a 874 ≡ y → matchesOf (q .word) (f .word) ≡ z →
+    leb earliest a ≡ x → leb a latest ≡ y → matchesOf (q .word) (f .word) ≡ z →
     let L : Line = record { turn = Talk own q a u; held = h; order = o; last = l } in
     Shifts (boiler f) (Talk own q a u) h (must (x && y) L 7 (must z L 8 (answeredOf L own u f)))
 unfolding refusal
-boiler-talk own q a u h o l f true true true ex ey ez = shift-ends own q a u h o l f (leb u 800) ez (leb-true 84 a ex) (leb-true a 874 ey) refl
+boiler-talk own q a u h o l f true true true ex ey ez = shift-ends own q a u h o l f (leb u patience) ez (omega (arith, leb-true earliest a ex)) (omega (arith, leb-true a latest ey)) refl
 boiler-talk own q a u h o l f true true false ex ey ez =
     unheard own q a u h f 8 (deaf-by f q a (λ m lo hi. let t : _≡_ {A = ℕ} 0 1 = cc in omega arith))
-boiler-talk own q a u h o l f true false z ex ey ez = unheard own q a u h f 7 (deaf-by f q a (λ m lo hi. omega (arith, leb-false a 874 ey)))
-boiler-talk own q a u h o l f false y z ex ey ez = unheard own q a u h f 7 (deaf-by f q a (λ m lo hi. omega (arith, leb-false 84 a ex)))
+boiler-talk own q a u h o l f true false z ex ey ez = unheard own q a u h f 7 (deaf-by f q a (λ m lo hi. omega (arith, leb-false a latest ey)))
+boiler-talk own q a u h o l f false y z ex ey ez = unheard own q a u h f 7 (deaf-by f q a (λ m lo hi. omega (arith, leb-false earliest a ex)))
 
 boiler-turn : (t : Turn) (h : Slot) (o : Order) (l : Talker) (f : Frame) →
     Shifts (boiler f) t h (boilerTurn (record { turn = t; held = h; order = o; last = l }) f t)
 unfolding refusal
 boiler-turn (Rest r) h o l f = stays (boiler f) (refused 7) (Rest r) h refl (mute (refused 7) refl) tt
-boiler-turn (Talk own q a u) h o l f = boiler-talk own q a u h o l f (leb 84 a) (leb a 874) (matchesOf (q .word) (f .word)) refl refl refl
+boiler-turn (Talk own q a u) h o l f = boiler-talk own q a u h o l f (leb earliest a) (leb a latest) (matchesOf (q .word) (f .word)) refl refl refl
 
 shift-boiler : (l : Line) (f : Frame) (p q : Bool) → evenOf (f .word) ≡ p → leb 4 (typeOf (f .word)) ≡ q →
     Shifts (boiler f) (l .turn) (l .held) (must p l 5 (must q l 6 (boilerTurn l f (l .turn))))

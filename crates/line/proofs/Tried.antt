@@ -17,7 +17,7 @@ use Rattle.line.specs.declared.Talker.the-variants.{Thermostat, Modbus}
 use Rattle.line.specs.declared.Turn.the-variants.{Rest, Talk}
 use Rattle.line.specs.declared.Slot.the-variants.{Empty, Full}
 use Rattle.line.specs.declared.Order.the-variants.{Nothing, Waits}
-use Rattle.line.specs.Turns.{freshLine, heldOlder, orderOlder, turnOlder, lineOlder, wordOf, waitingOf, sendsOf, after, startOf, restsOf, endedOf, silenceOf, talksOf, tickOf, refusal, must, thermostatOf, passesOf, answeredOf, boilerOf, underWay, orderOf}
+use Rattle.line.specs.Turns.{earliest, latest, freshLine, heldOlder, orderOlder, turnOlder, lineOlder, wordOf, waitingOf, sendsOf, after, startOf, restsOf, endedOf, silenceOf, talksOf, tickOf, refusal, must, thermostatOf, passesOf, answeredOf, boilerOf, underWay, orderOf}
 use Rattle.line.specs.Events.{tick, thermostat, order, Note, answer, no-answer, passed, dropped, refused, noteOf, about, Events, ticks}
 use Rattle.line.specs.Promise.{Demand3, Ending, answered, silent}
 use Rattle.line.specs.History.{lineAt, saidAt, notes, Own}
@@ -26,7 +26,7 @@ use Rattle.line.specs.Cases.{ticked, asking, crowded, relaying}
 -- a boiler frame that matches is judged by the talk's age alone
 judged : (own : Talker) (q : Frame) (a u : ℕ) (b : Frame) → matchesOf (q .word) (b .word) ≡ true →
     let l : Line = record { turn = Talk own q a u; held = Empty; order = Nothing; last = Modbus } in
-    boilerOf l b ≡ must (leb 84 a && leb a 874) l 7 (answeredOf l own u b)
+    boilerOf l b ≡ must (leb earliest a && leb a latest) l 7 (answeredOf l own u b)
 unfolding boilerOf
 judged own q a u b m = rw (match-even (q .word) (b .word) m, le-leb 4 (typeOf (b .word)) (match-type (q .word) (b .word) m), m)
 
@@ -39,7 +39,7 @@ module _ (w : Question) (b : Frame) (m : matchesOf (w .word) (b .word) ≡ true)
   out : ℕ → ℕ → Line
   out a u = record { turn = Talk Modbus (record { word = w .word }) a u; held = Empty; order = Nothing; last = Modbus }
 
-  at : (a u : ℕ) (n : Note) → noteOf (must (leb 84 a && leb a 874) (out a u) 7 (answeredOf (out a u) Modbus u b) .said) ≡ n → noteOf (boilerOf (out a u) b .said) ≡ n
+  at : (a u : ℕ) (n : Note) → noteOf (must (leb earliest a && leb a latest) (out a u) 7 (answeredOf (out a u) Modbus u b) .said) ≡ n → noteOf (boilerOf (out a u) b .said) ≡ n
   unfolding out
   at a u n e = rw (judged Modbus (record { word = w .word }) a u b m) e
 
@@ -70,7 +70,7 @@ module _ (f b : Frame) (ev : evenOf (f .word) ≡ true) (ty : typeOf (f .word) �
   sent : ℕ → ℕ → Line
   sent a u = record { turn = Talk Thermostat f a u; held = Empty; order = Nothing; last = Modbus }
 
-  replied : (a u : ℕ) (n : Note) → noteOf (must (leb 84 a && leb a 874) (sent a u) 7 (answeredOf (sent a u) Thermostat u b) .said) ≡ n →
+  replied : (a u : ℕ) (n : Note) → noteOf (must (leb earliest a && leb a latest) (sent a u) 7 (answeredOf (sent a u) Thermostat u b) .said) ≡ n →
       noteOf (boilerOf (sent a u) b .said) ≡ n
   unfolding sent
   replied a u n e = rw (judged Thermostat f a u b m) e

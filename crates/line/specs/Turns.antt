@@ -20,6 +20,23 @@ use Rattle.line.specs.declared.Slot.the-variants.{Empty, Full}
 use Rattle.line.specs.declared.Order.{Order}
 use Rattle.line.specs.declared.Order.the-variants.{Nothing, Waits}
 
+-- 01's numbers of ticks: a boiler frame can end a talk at the ages 84 to 874, and the talk ends by itself at 875; a talk starts at rest 100;
+-- and a thermostat frame that came more than 800 ticks ago gets no answer
+abbrev pub earliest : ℕ
+earliest = 84
+
+abbrev pub latest : ℕ
+latest = 874
+
+abbrev pub silence : ℕ
+silence = 875
+
+abbrev pub full-rest : ℕ
+full-rest = 100
+
+abbrev pub patience : ℕ
+patience = 800
+
 -- a line, and what is said
 abbrev pub says : Line → Said → Step
 says l s = record { line = l; said = s }
@@ -91,7 +108,7 @@ startOf l = firstOf l (roundOf (l .last))
 
 -- "If it rests, rest grows by one up to 100; at 100 a talk starts"
 unfoldable pub restsOf : Line → ℕ → Step
-restsOf l r = cond (ltb (older r) 100) (says (turned l (Rest (older r))) Quiet) (startOf (turned l (Rest 100)))
+restsOf l r = cond (ltb (older r) full-rest) (says (turned l (Rest (older r))) Quiet) (startOf (turned l (Rest full-rest)))
 
 -- the end of a talk: rest 0; its owner talked last, and an order waits "from acceptance until its outcome"
 unfoldable pub endedOf : Line → Talker → Line
@@ -105,7 +122,7 @@ silenceOf l Modbus since = says (endedOf l Modbus) (NoAnswer since)
 
 -- "If the line talks, its age grows by one"
 unfoldable pub talksOf : Line → Talker → Frame → ℕ → ℕ → Step
-talksOf l o f a since = cond (ltb (older a) 875) (says (turned l (Talk o f (older a) since)) Quiet) (silenceOf l o since)
+talksOf l o f a since = cond (ltb (older a) silence) (says (turned l (Talk o f (older a) since)) Quiet) (silenceOf l o since)
 
 abbrev tickTurn : Line → Turn → Step
 tickTurn l (Rest r) = restsOf l r
@@ -135,7 +152,7 @@ noneHeld Empty = true
 noneHeld (Full f t) = false
 
 unfoldable pub passesOf : Line → ℕ → Bool
-passesOf l since = noneHeld (l .held) && leb since 800
+passesOf l since = noneHeld (l .held) && leb since patience
 
 -- "ends the talk; rest becomes 0. For an order it is the outcome"; for the thermostat as above
 unfoldable pub answeredOf : Line → Talker → ℕ → Frame → Step
@@ -146,7 +163,7 @@ answeredOf l Thermostat since f = says (endedOf l Thermostat) (cond (passesOf l 
 abbrev pub boilerTurn : Line → Frame → Turn → Step
 boilerTurn l f (Rest r) = refusal l 7
 boilerTurn l f (Talk o q a since) =
-    must (leb 84 a && leb a 874) l 7
+    must (leb earliest a && leb a latest) l 7
     (must (matchesOf (q .word) (f .word)) l 8
     (answeredOf l o since f))
 
