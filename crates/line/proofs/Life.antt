@@ -21,7 +21,7 @@ use Rattle.line.specs.declared.Slot.{Slot}
 use Rattle.line.specs.declared.Slot.the-variants.{Empty, Full}
 use Rattle.line.specs.declared.Order.{Order}
 use Rattle.line.specs.declared.Order.the-variants.{Nothing, Waits}
-use Rattle.line.specs.Turns.{earliest, latest, silence, full-rest, older, heldOlder, orderOlder, turnOlder, lineOlder, wordOf, waitingOf, sendsOf, after, startOf, restsOf, endedOf, silenceOf, talksOf, tickOf, refusal, must, thermostatOf, passesOf, answeredOf, boilerTurn, boilerOf, underWay, orderOf, says, turned}
+use Rattle.line.specs.Turns.{earliest, latest, silence, full-rest, older, heldOlder, orderOlder, turnOlder, lineOlder, wordOf, waitingOf, sendsOf, after, startOf, restsOf, endedOf, silenceOf, talksOf, tickOf, refusal, must, thermostatOf, passesOf, answeredOf, heardOf, boilerOf, underWay, orderOf, says, turned}
 use Rattle.line.specs.Events.{Event, pass, tick, thermostat, boiler, order, beat, Note, nothing, refused, noteOf}
 use Rattle.line.specs.History.{doOf, Own}
 use Rattle.line.proofs.Moves.{Life, none, waits, talks, Deaf, Unasked, Other, Move, idle, takes, wait, send, talk, over, hear}
@@ -212,15 +212,15 @@ boiler-talk own q a u h o l f true false z ex ey ez = unheard f 7 own q a u o l 
 boiler-talk own q a u h o l f false y z ex ey ez = unheard f 7 own q a u o l (deaf-by f q a (λ m lo hi. omega (arith, leb-false earliest a ex)))
 
 boiler-turn : (t : Turn) (h : Slot) (o : Order) (l : Talker) (f : Frame) →
-    Moves (boiler f) (lifeOf t o l) (boilerTurn (record { turn = t; held = h; order = o; last = l }) f t)
-unfolding refusal
+    Moves (boiler f) (lifeOf t o l) (heardOf (record { turn = t; held = h; order = o; last = l }) f)
+unfolding refusal heardOf
 boiler-turn (Rest r) h Nothing l f = idle (omega arith) (boiler-unasked f)
 boiler-turn (Rest r) h (Waits w u) Thermostat f = same (boiler f) _ (waits w u (left (Rest r) Thermostat)) refl (omega arith) (omega arith)
 boiler-turn (Rest r) h (Waits w u) Modbus f = same (boiler f) _ (waits w u (left (Rest r) Modbus)) refl (omega arith) (omega arith)
 boiler-turn (Talk own q a u) h o l f = boiler-talk own q a u h o l f (leb earliest a) (leb a latest) (matchesOf (q .word) (f .word)) refl refl refl
 
 move-boiler : (l : Line) (f : Frame) (p q : Bool) → evenOf (f .word) ≡ p → leb 4 (typeOf (f .word)) ≡ q →
-    Moves (boiler f) (life l) (must p l 5 (must q l 6 (boilerTurn l f (l .turn))))
+    Moves (boiler f) (life l) (must p l 5 (must q l 6 (heardOf l f)))
 unfolding refusal
 move-boiler l f true true ep eq = boiler-turn (l .turn) (l .held) (l .order) (l .last) f
 move-boiler l f true false ep eq =

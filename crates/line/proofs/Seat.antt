@@ -1,6 +1,6 @@
 -- The thermostat's part, read off a line, and how each event shifts it, at every line; with it the promise to the thermostat, from the fresh start.
 -- Assumes nothing.
-use Prim.Native.Nat.{ℕ, _+_, _≤_, _<_}
+use Prim.Native.Nat.{ℕ, _≤_}
 use mathlib.Core.Path.{_≡_, refl}
 use mathlib.Core.Bool.{Bool, true, false, cond, _&&_}
 use native.Mathlib.Omega.{arith}
@@ -12,7 +12,7 @@ use Rattle.word.proofs.Match.{match-even, match-type}
 use Rattle.line.specs.declared.Line.{Line}
 use Rattle.line.specs.declared.Question.{Question}
 use Rattle.line.specs.declared.Step.{Step}
-use Rattle.line.specs.declared.Said.the-variants.{Quiet, Passed, Dropped, Held, Taken, Busy}
+use Rattle.line.specs.declared.Said.the-variants.{Quiet, Held, Taken, Busy}
 use Rattle.line.specs.declared.Talker.{Talker}
 use Rattle.line.specs.declared.Talker.the-variants.{Thermostat, Modbus}
 use Rattle.line.specs.declared.Turn.{Turn}
@@ -21,7 +21,7 @@ use Rattle.line.specs.declared.Slot.{Slot}
 use Rattle.line.specs.declared.Slot.the-variants.{Empty, Full}
 use Rattle.line.specs.declared.Order.{Order}
 use Rattle.line.specs.declared.Order.the-variants.{Nothing, Waits}
-use Rattle.line.specs.Turns.{earliest, latest, silence, full-rest, patience, older, heldOlder, orderOlder, turnOlder, lineOlder, wordOf, waitingOf, sendsOf, after, startOf, restsOf, endedOf, silenceOf, talksOf, tickOf, refusal, must, thermostatOf, passesOf, answeredOf, boilerTurn, boilerOf, underWay, orderOf, says, turned}
+use Rattle.line.specs.Turns.{earliest, latest, silence, full-rest, patience, older, heldOlder, orderOlder, turnOlder, lineOlder, wordOf, waitingOf, sendsOf, after, startOf, restsOf, endedOf, silenceOf, talksOf, tickOf, refusal, must, thermostatOf, passesOf, answeredOf, heardOf, boilerOf, underWay, orderOf, says, turned}
 use Rattle.line.specs.Events.{Event, pass, tick, thermostat, boiler, order, beat, Note, nothing, dropped, accepted, exception, sent, answer, no-answer, refused, noteOf, about, accepts, Events}
 use Rattle.line.specs.Relay.{Relay}
 use Rattle.line.specs.History.{doOf, lineAt, saidAt, notes}
@@ -125,7 +125,7 @@ shift-ends : (own : Talker) (q : Frame) (a u : ℕ) (h : Slot) (o : Order) (l : 
     Shifts (boiler f) (Talk own q a u) h (answeredOf L own u f)
 unfolding answeredOf endedOf passesOf
 shift-ends Modbus q a u h o l f t ma lo hi e = rest h (mute-order (answer f u) (omega arith)) (same-keeps (boiler f) h refl)
-shift-ends Thermostat q a u Empty o l f true ma lo hi e = rw e (hear q a u f refl refl ma lo hi (leb-true u patience e))
+shift-ends Thermostat q a u Empty o l f true ma lo hi e = rw e (hear q a u f refl refl ma lo hi (omega (arith, leb-true u patience e)))
 shift-ends Thermostat q a u Empty o l f false ma lo hi e = rw e (drop Empty q a u f refl (mute dropped refl) ma lo hi (leb-false u patience e))
 shift-ends Thermostat q a u (Full g x) o l f t ma lo hi e = drop (Full g x) q a u f refl (mute dropped refl) ma lo hi tt
 
@@ -147,13 +147,13 @@ boiler-talk own q a u h o l f true false z ex ey ez = unheard own q a u h f 7 (d
 boiler-talk own q a u h o l f false y z ex ey ez = unheard own q a u h f 7 (deaf-by f q a (λ m lo hi. omega (arith, leb-false earliest a ex)))
 
 boiler-turn : (t : Turn) (h : Slot) (o : Order) (l : Talker) (f : Frame) →
-    Shifts (boiler f) t h (boilerTurn (record { turn = t; held = h; order = o; last = l }) f t)
-unfolding refusal
+    Shifts (boiler f) t h (heardOf (record { turn = t; held = h; order = o; last = l }) f)
+unfolding refusal heardOf
 boiler-turn (Rest r) h o l f = stays (boiler f) (refused 7) (Rest r) h refl (mute (refused 7) refl) tt
 boiler-turn (Talk own q a u) h o l f = boiler-talk own q a u h o l f (leb earliest a) (leb a latest) (matchesOf (q .word) (f .word)) refl refl refl
 
 shift-boiler : (l : Line) (f : Frame) (p q : Bool) → evenOf (f .word) ≡ p → leb 4 (typeOf (f .word)) ≡ q →
-    Shifts (boiler f) (l .turn) (l .held) (must p l 5 (must q l 6 (boilerTurn l f (l .turn))))
+    Shifts (boiler f) (l .turn) (l .held) (must p l 5 (must q l 6 (heardOf l f)))
 unfolding refusal
 shift-boiler l f true true ep eq = boiler-turn (l .turn) (l .held) (l .order) (l .last) f
 shift-boiler l f true false ep eq =

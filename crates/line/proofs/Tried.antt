@@ -16,8 +16,8 @@ use Rattle.line.specs.declared.Talker.{Talker}
 use Rattle.line.specs.declared.Talker.the-variants.{Thermostat, Modbus}
 use Rattle.line.specs.declared.Turn.the-variants.{Rest, Talk}
 use Rattle.line.specs.declared.Slot.the-variants.{Empty, Full}
-use Rattle.line.specs.declared.Order.the-variants.{Nothing, Waits}
-use Rattle.line.specs.Turns.{earliest, latest, freshLine, heldOlder, orderOlder, turnOlder, lineOlder, wordOf, waitingOf, sendsOf, after, startOf, restsOf, endedOf, silenceOf, talksOf, tickOf, refusal, must, thermostatOf, passesOf, answeredOf, boilerOf, underWay, orderOf}
+use Rattle.line.specs.declared.Order.the-variants.{Nothing}
+use Rattle.line.specs.Turns.{earliest, latest, freshLine, heldOlder, orderOlder, turnOlder, lineOlder, wordOf, waitingOf, sendsOf, after, startOf, restsOf, endedOf, silenceOf, talksOf, tickOf, refusal, must, thermostatOf, passesOf, answeredOf, heardOf, boilerOf, underWay, orderOf}
 use Rattle.line.specs.Events.{tick, thermostat, order, Note, answer, no-answer, passed, dropped, refused, noteOf, about, Events, ticks}
 use Rattle.line.specs.Promise.{Demand3, Ending, answered, silent}
 use Rattle.line.specs.History.{lineAt, saidAt, notes, Own}
@@ -27,7 +27,7 @@ use Rattle.line.specs.Cases.{ticked, asking, crowded, relaying}
 judged : (own : Talker) (q : Frame) (a u : ℕ) (b : Frame) → matchesOf (q .word) (b .word) ≡ true →
     let l : Line = record { turn = Talk own q a u; held = Empty; order = Nothing; last = Modbus } in
     boilerOf l b ≡ must (leb earliest a && leb a latest) l 7 (answeredOf l own u b)
-unfolding boilerOf
+unfolding boilerOf heardOf
 judged own q a u b m = rw (match-even (q .word) (b .word) m, le-leb 4 (typeOf (b .word)) (match-type (q .word) (b .word) m), m)
 
 -- what is said to it, on a line that is known

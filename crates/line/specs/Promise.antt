@@ -10,7 +10,7 @@ use Rattle.word.specs.declared.Frame.{Frame}
 use Rattle.word.specs.Frame.{matchesOf}
 use Rattle.line.specs.declared.Question.{Question}
 use Rattle.line.specs.declared.Talker.the-variants.{Modbus}
-use Rattle.line.specs.Events.{Event, tick, boiler, order, Note, accepted, sent, answer, no-answer, Events, Notes, clock, ticks, about, accepts, sends, ends, Never}
+use Rattle.line.specs.Events.{tick, boiler, order, accepted, sent, answer, no-answer, Events, Notes, clock, ticks, about, accepts, sends, ends, Never}
 
 abbrev pub Owns : Type 1
 Owns = ℕ → Question → Frame → Type 0

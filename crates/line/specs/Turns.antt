@@ -159,19 +159,23 @@ unfoldable pub answeredOf : Line → Talker → ℕ → Frame → Step
 answeredOf l Modbus since f = says (endedOf l Modbus) (Answer f since)
 answeredOf l Thermostat since f = says (endedOf l Thermostat) (cond (passesOf l since) (Passed f) Dropped)
 
--- "A boiler frame that matches while the age is 84 to 874 ends the talk". "Order: .. 5, 6, 7, 8"
-abbrev pub boilerTurn : Line → Frame → Turn → Step
-boilerTurn l f (Rest r) = refusal l 7
-boilerTurn l f (Talk o q a since) =
+-- "A boiler frame that matches while the age is 84 to 874 ends the talk". 7: "outside a talk's ages 84-874"; 8: "doesn't match"
+abbrev pub heardIn : Line → Frame → Turn → Step
+heardIn l f (Rest r) = refusal l 7
+heardIn l f (Talk o q a since) =
     must (leb earliest a && leb a latest) l 7
     (must (matchesOf (q .word) (f .word)) l 8
     (answeredOf l o since f))
 
+unfoldable pub heardOf : Line → Frame → Step
+heardOf l f = heardIn l f (l .turn)
+
+-- "Order: .. 5, 6, 7, 8"
 unfoldable pub boilerOf : Line → Frame → Step
 boilerOf l f =
     must (evenOf (f .word)) l 5
     (must (leb 4 (typeOf (f .word))) l 6
-    (boilerTurn l f (l .turn)))
+    (heardOf l f))
 
 -- "Only one order waits .., from acceptance until its outcome": one that waits, and one whose own frame is out
 abbrev waits : Order → Bool

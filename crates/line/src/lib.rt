@@ -19,6 +19,7 @@ ghost use Rattle.line.specs.Turns.{
   refusal,
   restsOf,
   talksOf,
+  heardOf,
   underWay,
   tickOf,
   thermostatOf,
@@ -154,20 +155,7 @@ impl Line {
         if type_of(word) < 4 {
             return self.refused(6);
         }
-        let turn = self.turn;
-        let Turn::Talk(owner, sent, age, since) = turn else {
-            return self.refused(7);
-        };
-        if age < Line::EARLIEST {
-            return self.refused(7);
-        }
-        if Line::LATEST < age {
-            return self.refused(7);
-        }
-        if !matches(sent.word, word) {
-            return self.refused(8);
-        }
-        answered(self, owner, since, frame)
+        self.heard(frame)
     }
 
     pub fn order(mut self, question: Question) -> Step
@@ -230,6 +218,26 @@ impl Line {
         }
         let ready = self.turned(Turn::Rest(Line::REST));
         start(ready)
+    }
+
+    // A boiler frame of even parity and type 4 to 7.
+    fn heard(self, frame: Frame) -> Step
+        ensures { λ r. ⌜ r ≡ heardOf self frame ⌝ }
+    {
+        let turn = self.turn;
+        let Turn::Talk(owner, sent, age, since) = turn else {
+            return self.refused(7);
+        };
+        if age < Line::EARLIEST {
+            return self.refused(7);
+        }
+        if Line::LATEST < age {
+            return self.refused(7);
+        }
+        if !matches(sent.word, frame.word) {
+            return self.refused(8);
+        }
+        answered(self, owner, since, frame)
     }
 
     // A tick of a talk: it goes on, or has lasted too long.

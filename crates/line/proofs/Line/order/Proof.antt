@@ -1,4 +1,5 @@
-use borrow.Author.Tests.{eq-eqb}
+-- `line::Line::order` meets its contract: the test for an order under way decides.
+-- Assumes nothing.
 use borrow.Author.Needs.{needs}
 use Rattle.line.specs.Turns.{orderOf}
 use Rattle.line.proofs.Line.order.Statement.{statement}

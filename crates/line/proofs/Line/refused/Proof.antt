@@ -1,3 +1,5 @@
+-- `line::Line::refused` meets its contract: the line stays.
+-- Assumes nothing.
 use borrow.Author.Needs.{needs}
 use Rattle.line.specs.Turns.{refusal}
 use Rattle.line.proofs.Line.refused.Statement.{statement}

@@ -1,3 +1,5 @@
+-- `line::Line::rests` meets its contract: the rest goes on, or the first that waits talks.
+-- Assumes nothing.
 use borrow.Author.Tests.{lt-ltb, le-ltb}
 use borrow.Author.Needs.{needs}
 use Rattle.line.specs.Turns.{restsOf}

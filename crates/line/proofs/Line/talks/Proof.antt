@@ -1,3 +1,5 @@
+-- `line::Line::talks` meets its contract: the talk goes on, or ends by silence.
+-- Assumes nothing.
 use borrow.Author.Tests.{lt-ltb, le-ltb}
 use borrow.Author.Needs.{needs}
 use Rattle.line.specs.Turns.{talksOf}

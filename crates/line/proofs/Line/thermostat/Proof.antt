@@ -1,3 +1,5 @@
+-- `line::Line::thermostat` meets its contract: parity first, then the type.
+-- Assumes nothing.
 use borrow.Author.Needs.{needs}
 use borrow.Author.Tests.{le-leb, lt-leb, not-true, not-false}
 use Rattle.line.specs.Turns.{thermostatOf}

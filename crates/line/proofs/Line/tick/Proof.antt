@@ -1,3 +1,5 @@
+-- `line::Line::tick` meets its contract: everything is a tick older, and then the line rests or talks.
+-- Assumes nothing.
 use borrow.Author.Needs.{needs}
 use Rattle.line.specs.Turns.{tickOf}
 use Rattle.line.proofs.Line.tick.Statement.{statement}

@@ -1,3 +1,5 @@
+-- `line::Line::under_way` meets its contract: an order that waits, or whose talk it is.
+-- Assumes nothing.
 use borrow.Author.Needs.{needs}
 use Rattle.line.specs.Turns.{underWay}
 use Rattle.line.proofs.Line.under_way.Statement.{statement}

@@ -1,4 +1,5 @@
-use borrow.Author.Tests.{eq-eqb}
+-- `line::ends::answered` meets its contract: the ended line, with what its owner is told.
+-- Assumes nothing.
 use borrow.Author.Needs.{needs}
 use Rattle.line.specs.Turns.{answeredOf}
 use Rattle.line.proofs.ends.answered.Statement.{statement}

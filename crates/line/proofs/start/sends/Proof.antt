@@ -1,3 +1,5 @@
+-- `line::start::sends` meets its contract: each arm empties the room of the one who talks.
+-- Assumes nothing.
 use borrow.Author.Needs.{needs}
 use Rattle.line.specs.Turns.{sendsOf}
 use Rattle.line.proofs.start.sends.Statement.{statement}

@@ -1,3 +1,5 @@
+-- `line::start::start` meets its contract: the first of the round that waits, or none.
+-- Assumes nothing.
 use borrow.Author.Needs.{needs}
 use Rattle.line.specs.Turns.{startOf}
 use Rattle.line.proofs.start.start.Statement.{statement}

@@ -1,3 +1,5 @@
+-- `line::start::waiting` meets its contract: the held frame, or the word of the waiting order.
+-- Assumes nothing.
 use borrow.Author.Needs.{needs}
 use Rattle.line.specs.Turns.{waitingOf}
 use Rattle.line.proofs.start.waiting.Statement.{statement}

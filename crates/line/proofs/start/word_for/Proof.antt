@@ -1,3 +1,5 @@
+-- `line::start::word_for` meets its contract: the question's own word.
+-- Assumes nothing.
 use borrow.Author.Needs.{needs}
 use Rattle.line.specs.Turns.{wordOf}
 use Rattle.line.proofs.start.word_for.Statement.{statement}
