@@ -1,14 +1,19 @@
--- Demand 3 for a line, from its fresh start; and what a list of events is answered is the beginning of a history.
+-- Demand 3 for a line, from its fresh start; what it says to an order; and what a list of events is answered is the beginning of a history.
 -- Assumes nothing.
 use Prim.Native.Nat.{ℕ, zero, suc, _<_}
-use mathlib.Core.Path.{_≡_, refl, sym, ap, _∙_}
+use mathlib.Core.Path.{_≡_, refl, sym, ap, _∙_, subst}
+use mathlib.Core.Bool.{Bool, true, false, cond}
+use mathlib.Core.Logic.{_⊎_, inl, inr}
 use mathlib.Core.List.{List, [], _∷_}
 use native.Mathlib.Omega.{arith}
 use lib.ListN.{getD, length}
 use Rattle.line.specs.declared.Line.{Line}
-use Rattle.line.specs.declared.Said.the-variants.{Quiet}
-use Rattle.line.specs.Turns.{freshLine}
-use Rattle.line.specs.Events.{Event, Events}
+use Rattle.line.specs.declared.Question.{Question}
+use Rattle.line.specs.declared.Order.the-variants.{Waits}
+use Rattle.line.specs.declared.Said.{Said}
+use Rattle.line.specs.declared.Said.the-variants.{Quiet, Taken, Busy}
+use Rattle.line.specs.Turns.{freshLine, says, underWay, orderOf}
+use Rattle.line.specs.Events.{Event, order, accepted, exception, noteOf, Events}
 use Rattle.line.specs.Promise.{Demand3}
 use Rattle.line.specs.History.{doOf, lineAt, saidAt, notes, Own, of, run}
 use Rattle.line.proofs.Life.{life, move}
@@ -17,6 +22,18 @@ use Rattle.line.proofs.Promise.{promise}
 pub demand3 : (h : Events) → Demand3 1950 Own h (notes h)
 unfolding lineAt saidAt
 demand3 h = promise 1950 (omega arith) Own h (notes h) (λ n. life (lineAt h n)) refl (λ n. move (lineAt h n) (h n))
+
+-- to each order a line says that it is accepted, or exception 06
+pub order-said : (h : Events) (k : ℕ) (w : Question) → h k ≡ order w → (notes h k ≡ accepted) ⊎ (notes h k ≡ exception 6)
+unfolding saidAt orderOf
+order-said h k w e = subst (λ (x : Event). Either (doOf (lineAt h k) x .said)) (sym e) (go (underWay (lineAt h k)))
+  where
+    Either : Said → Type 0
+    Either s = (noteOf s ≡ accepted) ⊎ (noteOf s ≡ exception 6)
+
+    go : (b : Bool) → Either (cond b (says (lineAt h k) Busy) (says (record { turn = lineAt h k .turn; held = lineAt h k .held; order = Waits w 0; last = lineAt h k .last }) Taken) .said)
+    go true = inr refl
+    go false = inl refl
 
 -- the line l after n events
 after : Line → Events → ℕ → Line

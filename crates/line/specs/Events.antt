@@ -68,9 +68,13 @@ unfoldable pub clock : Events → ℕ → ℕ
 clock h zero = 0
 clock h (suc n) = clock h n + beat (h n)
 
+-- how many ticks come after event i and before event n
+abbrev pub past : Events → ℕ → ℕ → ℕ
+past h i n = clock h n - clock h (suc i)
+
 -- how many ticks come after event i, up to and with event k
 abbrev pub ticks : Events → ℕ → ℕ → ℕ
-ticks h i k = clock h (suc k) - clock h (suc i)
+ticks h i k = past h i (suc k)
 
 -- what a note is about: a thermostat frame is held, goes out, or has its answer passed on; an order is accepted, goes out, or ends
 abbrev pub aside : ℕ

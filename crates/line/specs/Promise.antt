@@ -2,7 +2,7 @@
 -- B is the bound in ticks (1,950), and Own j w q says that q is the frame of the question w, when it goes out at event j.
 -- Event i is the acceptance, event j the order's own frame going out, event k the outcome.
 -- Nothing here knows a line. Assumes nothing: these are definitions.
-use Prim.Native.Nat.{ℕ, suc, _-_, _≤_, _<_}
+use Prim.Native.Nat.{ℕ, _≤_, _<_}
 use mathlib.Core.Path.{_≡_}
 use mathlib.Core.Logic.{_⊎_}
 use mathlib.Core.Bool.{true}
@@ -10,7 +10,7 @@ use Rattle.word.specs.declared.Frame.{Frame}
 use Rattle.word.specs.Frame.{matchesOf}
 use Rattle.line.specs.declared.Question.{Question}
 use Rattle.line.specs.declared.Talker.the-variants.{Modbus}
-use Rattle.line.specs.Events.{tick, boiler, order, accepted, sent, answer, no-answer, Events, Notes, clock, ticks, about, accepts, sends, ends, Never}
+use Rattle.line.specs.Events.{tick, boiler, order, accepted, sent, answer, no-answer, Events, Notes, past, ticks, about, accepts, sends, ends, Never}
 
 abbrev pub Owns : Type 1
 Owns = ℕ → Question → Frame → Type 0
@@ -57,11 +57,11 @@ pub record Served (B : ℕ) (Own : Owns) (h : Events) (s : Notes) (i : ℕ) (w :
 
 -- after n events the order that was accepted at event i has no outcome, and rightly so
 pub record Open (B : ℕ) (h : Events) (s : Notes) (i n : ℕ) : Type 0 where
-  pub soon : clock h n - clock h (suc i) < B
+  pub soon : past h i n < B
   pub only : Never s ends i n
   pub alone : Never s accepts i n
-  -- if its frame went out, then less than 875 ticks ago, and no answer to it has come
-  pub short : (j : ℕ) (q : Frame) → i < j → j < n → s j ≡ sent Modbus q → clock h n - clock h (suc j) < 875
+  -- "at tick 875 and not before": if its frame went out, then less than 875 ticks ago, and no answer to it has come
+  pub short : (j : ℕ) (q : Frame) → i < j → j < n → s j ≡ sent Modbus q → past h j n < 875
   pub unanswered : (j : ℕ) (q : Frame) (m : ℕ) (b : Frame) → i < j → m < n → s j ≡ sent Modbus q → Answers h j q m b → ⊥
 
 -- the frame q that goes out for Modbus at event j is that of an order that is accepted and has no outcome, and goes out once
