@@ -126,7 +126,7 @@ shift-ends : (own : Talker) (q : Frame) (a u : ℕ) (h : Slot) (o : Order) (l : 
 unfolding answeredOf endedOf passesOf
 shift-ends Modbus q a u h o l f t ma lo hi e = rest h (mute-order (answer f u) (omega arith)) (same-keeps (boiler f) h refl)
 shift-ends Thermostat q a u Empty o l f true ma lo hi e = rw e (hear q a u f refl refl ma lo hi (omega (arith, leb-true u patience e)))
-shift-ends Thermostat q a u Empty o l f false ma lo hi e = rw e (drop Empty q a u f refl (mute dropped refl) ma lo hi (leb-false u patience e))
+shift-ends Thermostat q a u Empty o l f false ma lo hi e = rw e (drop Empty q a u f refl (mute dropped refl) ma lo hi (omega (arith, leb-false u patience e)))
 shift-ends Thermostat q a u (Full g x) o l f t ma lo hi e = drop (Full g x) q a u f refl (mute dropped refl) ma lo hi tt
 
 -- a boiler frame that is refused

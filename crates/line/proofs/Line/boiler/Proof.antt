@@ -1,5 +1,6 @@
 -- `line::Line::boiler` meets its contract: parity first, then the type, then what the talk says to it.
 -- Assumes nothing.
+use native.Mathlib.Omega.{arith}
 use borrow.Author.Needs.{needs}
 use borrow.Author.Tests.{le-leb, lt-leb, not-true, not-false}
 use Rattle.line.specs.Turns.{boilerOf}
@@ -25,7 +26,7 @@ refused-requires-2 c κs = search needs
 returns-2 : tie.Need-returns-2
 unfolding boilerOf
 returns-2 c = let d = c .before .before in
-    rw (← d .before .before .even .ensures, not-false (d .before .before .even .result) (d .before .if1 .left), ← d .type-of .ensures, lt-leb _ _ (c .before .if2 .taken)) (c .refused2 .ensures)
+    rw (← d .before .before .even .ensures, not-false (d .before .before .even .result) (d .before .if1 .left), ← d .type-of .ensures, lt-leb 4 (d .type-of .result) (omega (arith, c .before .if2 .taken))) (c .refused2 .ensures)
 
 heard-requires : tie.Need-heard-requires
 heard-requires c κs = search needs
@@ -33,7 +34,7 @@ heard-requires c κs = search needs
 returns-3 : tie.Need-returns-3
 unfolding boilerOf
 returns-3 c = let d = c .before .before in
-    rw (← d .before .before .even .ensures, not-false (d .before .before .even .result) (d .before .if1 .left), ← d .type-of .ensures, le-leb _ _ (c .before .if2 .left)) (c .heard .ensures)
+    rw (← d .before .before .even .ensures, not-false (d .before .before .even .result) (d .before .if1 .left), ← d .type-of .ensures, le-leb 4 (d .type-of .result) (omega (arith, c .before .if2 .left))) (c .heard .ensures)
 
 pub boiler-spec : {M : Type 1} → statement M
 boiler-spec =

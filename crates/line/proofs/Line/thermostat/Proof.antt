@@ -1,5 +1,6 @@
 -- `line::Line::thermostat` meets its contract: parity first, then the type.
 -- Assumes nothing.
+use native.Mathlib.Omega.{arith}
 use borrow.Author.Needs.{needs}
 use borrow.Author.Tests.{le-leb, lt-leb, not-true, not-false}
 use Rattle.line.specs.Turns.{thermostatOf}
@@ -25,12 +26,12 @@ refused-requires-2 c κs = search needs
 returns-2 : tie.Need-returns-2
 unfolding thermostatOf
 returns-2 c = let d = c .before .before in
-    rw (← d .before .before .even .ensures, not-false (d .before .before .even .result) (d .before .if1 .left), ← d .type-of .ensures, lt-leb _ _ (c .before .if2 .taken), ← c .refused2 .ensures)
+    rw (← d .before .before .even .ensures, not-false (d .before .before .even .result) (d .before .if1 .left), ← d .type-of .ensures, lt-leb (d .type-of .result) 2 (omega (arith, c .before .if2 .taken)), ← c .refused2 .ensures)
 
 returns-3 : tie.Need-returns-3
 unfolding thermostatOf
 returns-3 c = let d = c .before in
-    rw (← d .before .before .even .ensures, not-false (d .before .before .even .result) (d .before .if1 .left), ← d .type-of .ensures, le-leb _ _ (c .if2 .left))
+    rw (← d .before .before .even .ensures, not-false (d .before .before .even .result) (d .before .if1 .left), ← d .type-of .ensures, le-leb (d .type-of .result) 2 (omega (arith, c .if2 .left)))
 
 pub thermostat-spec : {M : Type 1} → statement M
 thermostat-spec =
