@@ -31,4 +31,8 @@ more s that i n nev off m lo hi on = ⊎-elim (λ lt. nev m lo lt on) (λ is. of
 
 pub clock-mono : (h : Events) (m n : ℕ) → m ≤ n → clock h m ≤ clock h n
 clock-mono h m zero le = let is : m ≡ 0 = omega arith in rw is (omega arith)
-clock-mono h m (suc n) le = ⊎-elim (λ lt. let up = clock-mono h m n (omega arith) in let cl = clock-suc h n in omega arith) (λ (g : suc n ≤ m). let is : m ≡ suc n = omega arith in rw is (omega arith)) (side m (suc n))
+clock-mono h m (suc n) le =
+    ⊎-elim
+    (λ lt. let up = clock-mono h m n (omega arith) in let cl = clock-suc h n in omega arith)
+    (λ (g : suc n ≤ m). let is : m ≡ suc n = omega arith in rw is (omega arith))
+    (side m (suc n))

@@ -37,7 +37,9 @@ order-said h k w e = subst (λ (x : Event). Either (doOf (lineAt h k) x .said)) 
     Either : Said → Type 0
     Either s = (noteOf s ≡ accepted) ⊎ (noteOf s ≡ exception 6)
 
-    go : (b : Bool) → Either (cond b (says (lineAt h k) Busy) (says (record { turn = lineAt h k .turn; held = lineAt h k .held; order = Waits w 0; last = lineAt h k .last }) Taken) .said)
+    go : (b : Bool) →
+        Either
+        (cond b (says (lineAt h k) Busy) (says (record { turn = lineAt h k .turn; held = lineAt h k .held; order = Waits w 0; last = lineAt h k .last }) Taken) .said)
     go true = inr refl
     go false = inl refl
 

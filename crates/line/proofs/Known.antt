@@ -85,7 +85,8 @@ module _ (h : Events) (s : Notes) where
   latest-next i n m none o = more s holds i n o (λ on. muted n holds m (omega arith) (omega arith) on)
   latest-next i n m (one f t t′ g) o = tt
 
-  talk-next : (n : ℕ) {x y : Slot} (f : Frame) (a t a′ t′ : ℕ) → Mute (s n) → Keeps (h n) x y → (a < 875 → a′ ≡ a + beat (h n)) → Grows (h n) t t′ → (a < 875 → a′ < 875) → Deaf (h n) f a →
+  talk-next : (n : ℕ) {x y : Slot} (f : Frame) (a t a′ t′ : ℕ) → Mute (s n) → Keeps (h n) x y →
+      (a < 875 → a′ ≡ a + beat (h n)) → Grows (h n) t t′ → (a < 875 → a′ < 875) → Deaf (h n) f a →
       Sending n x f a t → Sending (suc n) y f a′ t′
   unfolding Deaf
   talk-next n f a t a′ t′ m k ea g es d o =
@@ -123,7 +124,8 @@ module _ (h : Events) (s : Notes) where
         age-own = omega (arith, o .age-own);
         age = record { d = o .age .d; real = omega (arith, o .age .real); count = o .age .count };
         short = o .short;
-        first = λ p b lt an. ⊎-elim (λ l. o .first p b l an) (λ e′. let fr : h n ≡ boiler b = rw e′ at (an .frame) in let z : _≡_ {A = ℕ} 0 1 = cc in omega arith) (last-or p n lt);
+        first = λ p b lt an. ⊎-elim (λ l. o .first p b l an) (λ e′. let fr : h n ≡ boiler b = rw e′ at (an .frame) in
+            let z : _≡_ {A = ℕ} 0 1 = cc in omega arith) (last-or p n lt);
         latest = tt;
       }
 

@@ -28,12 +28,17 @@ Unasked e = (w : Question) → e ≡ order w → ⊥
 abbrev pub Other : Note → Type 0
 Other s = about s < accepts
 
--- how an event e with the note s moves an order's life, where the outcome comes within B ticks and A w q says that q is the frame of the question w
+-- how an event e with the note s moves an order's life, where the outcome comes within B ticks,
+-- and A w q says that q is the frame of the question w
 pub data Move (B : ℕ) (A : Question → Frame → Type 0) (e : Event) (s : Note) : Life → Life → Type 0 where
   idle : Other s → Unasked e → Move B A e s none none
   takes : (w : Question) (p : ℕ) → e ≡ order w → s ≡ accepted → 876 ≤ p → p ≤ B → Move B A e s none (waits w 0 p)
-  wait : (w : Question) (u p u′ p′ : ℕ) → Other s → (u < 65535 → u′ ≡ u + beat e) → p′ + beat e ≤ p → 876 ≤ p′ → Move B A e s (waits w u p) (waits w u′ p′)
-  send : (w : Question) (q : Frame) (u p u′ : ℕ) → e ≡ tick → s ≡ sent Modbus q → A w q → (u < 65535 → u′ ≡ u + 1) → 876 ≤ p → Move B A e s (waits w u p) (talks q 0 u′)
-  talk : (q : Frame) (a u a′ u′ : ℕ) → Other s → (a < 875 → a′ ≡ a + beat e) → (u < 65535 → u′ ≡ u + beat e) → (a < 875 → a′ < 875) → Deaf e q a → Move B A e s (talks q a u) (talks q a′ u′)
+  wait : (w : Question) (u p u′ p′ : ℕ) → Other s → (u < 65535 → u′ ≡ u + beat e) → p′ + beat e ≤ p → 876 ≤ p′ →
+      Move B A e s (waits w u p) (waits w u′ p′)
+  send : (w : Question) (q : Frame) (u p u′ : ℕ) → e ≡ tick → s ≡ sent Modbus q → A w q → (u < 65535 → u′ ≡ u + 1) → 876 ≤ p →
+      Move B A e s (waits w u p) (talks q 0 u′)
+  talk : (q : Frame) (a u a′ u′ : ℕ) → Other s → (a < 875 → a′ ≡ a + beat e) → (u < 65535 → u′ ≡ u + beat e) → (a < 875 → a′ < 875) → Deaf e q a →
+      Move B A e s (talks q a u) (talks q a′ u′)
   over : (q : Frame) (a u u′ : ℕ) → e ≡ tick → s ≡ no-answer u′ → (u < 65535 → u′ ≡ u + 1) → 874 ≤ a → Move B A e s (talks q a u) none
-  hear : (q : Frame) (a u : ℕ) (b : Frame) → e ≡ boiler b → s ≡ answer b u → matchesOf (q .word) (b .word) ≡ true → 84 ≤ a → a ≤ 874 → Move B A e s (talks q a u) none
+  hear : (q : Frame) (a u : ℕ) (b : Frame) → e ≡ boiler b → s ≡ answer b u → matchesOf (q .word) (b .word) ≡ true → 84 ≤ a → a ≤ 874 →
+      Move B A e s (talks q a u) none

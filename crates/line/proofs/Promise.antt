@@ -94,7 +94,13 @@ module _ (B : ℕ) (fits : B < 65535) (Own : Owns) (h : Events) (s : Notes) wher
         (progress (f .0) (f .1) (f .3) n (f .2))
 
     from : (k : ℕ) → about (s k) ≡ ends → From k → Earned k
-    from k on f = (f .0, f .1, f .2, f .3, ⊎-elim (λ o. absurd (o .only k (f .2) (omega arith) on)) (λ d. now d) (each (f .0) (suc k) (f .1) (f .3) (omega (arith, f .2))))
+    from k on f = (
+      f .0,
+      f .1,
+      f .2,
+      f .3,
+      ⊎-elim (λ o. absurd (o .only k (f .2) (omega arith) on)) (λ d. now d) (each (f .0) (suc k) (f .1) (f .3) (omega (arith, f .2))),
+    )
       where
         now : Done (f .0) (f .1) (suc k) → Served B Own h s (f .0) (f .1) k
         now d =
@@ -112,7 +118,8 @@ module _ (B : ℕ) (fits : B < 65535) (Own : Owns) (h : Events) (s : Notes) wher
     earned-of k on (over q a u u′ et es eu ge) f = from k on f
     earned-of k on (hear q a u b et es ma lo hi) f = from k on f
 
-    asked-of : (j : ℕ) (q : Frame) → s j ≡ sent Modbus q → {x y : Life} → Move B (Own j) (h j) (s j) x y → Source j x → ((f : From j) → Stage B fits Own h s (f .0) (f .1) j x) → Asked Own h s j q
+    asked-of : (j : ℕ) (q : Frame) → s j ≡ sent Modbus q → {x y : Life} → Move B (Own j) (h j) (s j) x y → Source j x →
+        ((f : From j) → Stage B fits Own h s (f .0) (f .1) j x) → Asked Own h s j q
     asked-of j q on (idle c no-order) f st = let t = ap about on in absurd (omega arith)
     asked-of j q on (takes v p ea es far hi) f st = let t = ap about (sym es ∙ on) in absurd (omega arith)
     asked-of j q on (wait v u p u′ p′ c eu ep far) f st = let t = ap about on in absurd (omega arith)

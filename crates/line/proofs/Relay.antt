@@ -40,7 +40,8 @@ module _ (h : Events) (s : Notes) where
     -- the frame that goes out is the one that came at event i
     same-frame : (g : Frame) (t : ℕ) (o : Keeping h s (w .j) g t) → o .i ≡ w .i
     same-frame g t o =
-        let lo : o .i ≤ w .i = ⊎-elim (λ l. absurd (w .latest (o .i) l (omega (arith, o .before, w .answers .after)) (ap about (o .came .taken)))) (λ g. g) (side (w .i) (o .i)) in
+        let lo : o .i ≤ w .i =
+        ⊎-elim (λ l. absurd (w .latest (o .i) l (omega (arith, o .before, w .answers .after)) (ap about (o .came .taken)))) (λ g. g) (side (w .i) (o .i)) in
         let hi : w .i ≤ o .i = ⊎-elim (λ l. absurd (o .latest (w .i) l (w .sending) (ap about (w .came .taken)))) (λ g. g) (side (o .i) (w .i)) in
         omega arith
 
@@ -62,7 +63,8 @@ module _ (h : Events) (s : Notes) where
     begins (drop x g a t c e m ma lo hi ls) o = absurd (muted h s (w .j) relays m (omega arith) (omega arith) (ap about (w .own)))
 
     -- an answer before event k would have been the first
-    too-soon : (n : ℕ) (g : Frame) (a t : ℕ) (c : Frame) → w .j < n → n < k → h n ≡ boiler c → matchesOf (g .word) (c .word) ≡ true → 84 ≤ a → a ≤ 874 → Lasts n g a t → ⊥
+    too-soon : (n : ℕ) (g : Frame) (a t : ℕ) (c : Frame) → w .j < n → n < k → h n ≡ boiler c → matchesOf (g .word) (c .word) ≡ true → 84 ≤ a → a ≤ 874 →
+        Lasts n g a t → ⊥
     too-soon n g a t c after early e ma lo hi o =
         let cl = clock-suc h n in
         let eb : beat (h n) ≡ 0 = ap beat e in

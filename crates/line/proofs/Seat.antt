@@ -110,8 +110,10 @@ shift-thermostat : (l : Line) (f : Frame) (p q : Bool) →
     (must p l 5 (must q l 6 (says (record { turn = l .turn; held = Full f 0; order = l .order; last = l .last }) Held)))
 unfolding refusal
 shift-thermostat l f true true = take f refl refl
-shift-thermostat l f true false = stays (thermostat f) (refused 6) (l .turn) (l .held) refl (mute (refused 6) refl) (deaf-to (thermostat f) (l .turn) (deaf-thermostat f))
-shift-thermostat l f false q = stays (thermostat f) (refused 5) (l .turn) (l .held) refl (mute (refused 5) refl) (deaf-to (thermostat f) (l .turn) (deaf-thermostat f))
+shift-thermostat l f true false =
+    stays (thermostat f) (refused 6) (l .turn) (l .held) refl (mute (refused 6) refl) (deaf-to (thermostat f) (l .turn) (deaf-thermostat f))
+shift-thermostat l f false q =
+    stays (thermostat f) (refused 5) (l .turn) (l .held) refl (mute (refused 5) refl) (deaf-to (thermostat f) (l .turn) (deaf-thermostat f))
 
 -- an order
 shift-order : (l : Line) (w : Question) (b : Bool) →
@@ -120,7 +122,8 @@ shift-order l w true = stays (order w) (exception 6) (l .turn) (l .held) refl (m
 shift-order l w false = stays (order w) accepted (l .turn) (l .held) refl (mute-order accepted (omega arith)) (deaf-to (order w) (l .turn) (deaf-order w))
 
 -- a boiler frame that ends a talk
-shift-ends : (own : Talker) (q : Frame) (a u : ℕ) (h : Slot) (o : Order) (l : Talker) (f : Frame) (t : Bool) → matchesOf (q .word) (f .word) ≡ true → 84 ≤ a → a ≤ 874 → leb u patience ≡ t →
+shift-ends : (own : Talker) (q : Frame) (a u : ℕ) (h : Slot) (o : Order) (l : Talker) (f : Frame) (t : Bool) →
+    matchesOf (q .word) (f .word) ≡ true → 84 ≤ a → a ≤ 874 → leb u patience ≡ t →
     let L : Line = record { turn = Talk own q a u; held = h; order = o; last = l } in
     Shifts (boiler f) (Talk own q a u) h (answeredOf L own u f)
 unfolding answeredOf endedOf passesOf
@@ -140,7 +143,8 @@ boiler-talk : (own : Talker) (q : Frame) (a u : ℕ) (h : Slot) (o : Order) (l :
     let L : Line = record { turn = Talk own q a u; held = h; order = o; last = l } in
     Shifts (boiler f) (Talk own q a u) h (must (x && y) L 7 (must z L 8 (answeredOf L own u f)))
 unfolding refusal
-boiler-talk own q a u h o l f true true true ex ey ez = shift-ends own q a u h o l f (leb u patience) ez (omega (arith, leb-true earliest a ex)) (omega (arith, leb-true a latest ey)) refl
+boiler-talk own q a u h o l f true true true ex ey ez =
+    shift-ends own q a u h o l f (leb u patience) ez (omega (arith, leb-true earliest a ex)) (omega (arith, leb-true a latest ey)) refl
 boiler-talk own q a u h o l f true true false ex ey ez =
     unheard own q a u h f 8 (deaf-by f q a (λ m lo hi. let t : _≡_ {A = ℕ} 0 1 = cc in omega arith))
 boiler-talk own q a u h o l f true false z ex ey ez = unheard own q a u h f 7 (deaf-by f q a (λ m lo hi. omega (arith, leb-false a latest ey)))
