@@ -61,6 +61,15 @@ module _ (B : ℕ) (fits : B < 65535) (Own : Owns) (h : Events) (s : Notes) wher
       go (no l) (yes g) = absurd (x .only m (omega (arith, y .sending, y .later)) g (ended i m w y))
       go (no l) (no g) = omega arith
 
+  -- an outcome is one order's
+  same-order : (i j k : ℕ) (v w : Question) → Accepted h s i v → Accepted h s j w → Served B Own h s i v k → Served B Own h s j w k → i ≡ j
+  same-order i j k v w a b x y = go (decLt i j) (decLt j i)
+    where
+      go : Dec (i < j) → Dec (j < i) → i ≡ j
+      go (yes l) g = absurd (x .alone j l (omega (arith, y .sending, y .later)) (ap about (b .taken)))
+      go (no l) (yes g) = absurd (y .alone i g (omega (arith, x .sending, x .later)) (ap about (a .taken)))
+      go (no l) (no g) = omega arith
+
   module _ (lf : ℕ → Life) (fresh : lf 0 ≡ none) (mv : (n : ℕ) → Move B (Own n) (h n) (s n) (lf n) (lf (suc n))) where
     progress : (i : ℕ) (w : Question) → Accepted h s i w → (n : ℕ) → i < n → Stage B fits Own h s i w n (lf n) ⊎ Done i w n
     progress i w acc zero lt = absurd (omega arith)
@@ -154,6 +163,7 @@ module _ (B : ℕ) (fits : B < 65535) (Own : Owns) (h : Events) (s : Notes) wher
       each = each;
       in-time = in-time;
       once = one;
+      whose = same-order;
       earned = λ k on. earned-of k on (mv k) (sources k);
       asked = λ j q on. asked-of j q on (mv j) (sources j) (stands j);
       ready = λ k w eo. ready-of k w eo (mv k) (sources k);

@@ -79,9 +79,10 @@ pub record Demand3 (B : ℕ) (Own : Owns) (h : Events) (s : Notes) : Type 0 wher
   pub each : (i n : ℕ) (w : Question) → Accepted h s i w → i < n → Open B h s i n ⊎ ((k : ℕ) × (k < n) × Served B Own h s i w k)
   -- "Each accepted order gets .. [an] outcome .., once that many ticks have come"
   pub in-time : (i n : ℕ) (w : Question) → Accepted h s i w → i ≤ n → B ≤ ticks h i n → (k : ℕ) × (k ≤ n) × Served B Own h s i w k
-  -- "exactly one": it has no second outcome, and each outcome is an accepted order's
+  -- "exactly one": it has no second outcome, and each outcome is an accepted order's, and no other's
   pub once : (i k m : ℕ) (w : Question) → Served B Own h s i w k → Served B Own h s i w m → k ≡ m
   pub earned : (k : ℕ) → about (s k) ≡ ends → (i : ℕ) × (w : Question) × (i < k) × Accepted h s i w × Served B Own h s i w k
+  pub whose : (i j k : ℕ) (v w : Question) → Accepted h s i v → Accepted h s j w → Served B Own h s i v k → Served B Own h s j w k → i ≡ j
   -- nothing goes out for an order but its own word, once
   pub asked : (j : ℕ) (q : Frame) → s j ≡ sent Modbus q → Asked Own h s j q
   -- an order is accepted, unless one is under way
