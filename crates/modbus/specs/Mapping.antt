@@ -3,10 +3,9 @@
 use Prim.Native.Nat.{ℕ, _/_, _%_}
 use mathlib.Core.List.{List, [], _∷_}
 use mathlib.Core.Bool.{Bool, true, cond, not, _&&_}
-use lib.ListN.{getD}
 use lib.Dec.{eqb, leb, ltb}
 use Rattle.word.specs.Frame.{read-data, write-data, invalid-data}
-use Rattle.modbus.specs.Shape.{servedOf, formedOf, fieldsOf, offsetOf}
+use Rattle.modbus.specs.Shape.{unitOf, functionOf, servedOf, formedOf, fieldsOf, offsetOf}
 use Rattle.modbus.specs.declared.Form.{Form}
 use Rattle.modbus.specs.declared.Form.the-variants as form
 use Rattle.modbus.specs.declared.Order.{Order}
@@ -128,8 +127,8 @@ ownOf a = cond (eqb (a .reads) 1 && eqb (a .from) 0x0076) (AtOnce (Value 5 (a .f
 -- "unit 1 to 5; function below 80; function served (else exception 01); exact length and byte count, then counts (03)"
 unfoldable pub readOf : List ℕ → Reading
 readOf b =
-    let u = getD b 0 0 in
-    let f = getD b 1 0 in
+    let u = unitOf b in
+    let f = functionOf b in
     unless (within 1 5 u) (Silent 13)
     (unless (ltb f 0x80) (Silent 14)
     (unless (servedOf u f) (atOnce u f 0x01)

@@ -9,6 +9,12 @@ use lib.Dec.{eqb, leb}
 use Rattle.word.specs.Bytes.{pairAt}
 use Rattle.modbus.specs.declared.shape.Fields.{Fields}
 
+abbrev pub unitOf : List ℕ → ℕ
+unitOf b = getD b 0 0
+
+abbrev pub functionOf : List ℕ → ℕ
+functionOf b = getD b 1 0
+
 -- "function served": those of the table; "Unit 5 serves 03, 04, 06, 10"
 unfoldable pub servedOf : ℕ → ℕ → Bool
 servedOf u f =

@@ -1,13 +1,11 @@
 -- `crc::next` meets its contract: eight bits by the table.
 -- Assumes nothing.
 use mathlib.Core.Path.{sym, ap, _∙_}
-use Prim.Native.Nat.{ℕ, _/_, _%_}
-use borrow.Author.Needs.{needs}
+use Prim.Native.Nat.{_/_, _%_}
 use native.Mathlib.Omega.{arith}
 use lib.Bits.{bitXor}
-use Rattle.crc.specs.Crc.{crcBits}
+use borrow.Author.Needs.{needs}
 use Rattle.crc.proofs.Linear.{by-parts}
-use Rattle.crc.proofs.Remainders.{table, remainder}
 use Rattle.crc.proofs.next.Statement.{statement}
 use Rattle.crc.proofs.next.Tie as tie
 
@@ -17,15 +15,14 @@ cast-low c = search needs
 mul-result : tie.Need-mul-result
 mul-result c = search needs
 
-array-read-result : tie.Need-array-read-result
-array-read-result c = search needs
+element-copy-out-result : tie.Need-element-copy-out-result
+element-copy-out-result c = search needs
 
 returns : tie.Need-returns
-unfolding table
 returns c =
-    let a = c .args in
+    let a = c .before .args in
     let x = bitXor (a .crc) (a .b) in
-    ap (bitXor (x / 256)) (remainder (x % 256) (omega arith)) ∙ sym (by-parts 8 x)
+    ap (bitXor (x / 256)) (c .before .pre (x % 256) (omega arith)) ∙ sym (by-parts 8 x)
 
 pub next-spec : {M : Type 1} → statement M
-next-spec = tie.close (tie.spec cast-low mul-result array-read-result returns)
+next-spec = tie.close (tie.spec cast-low mul-result element-copy-out-result returns)
