@@ -1,15 +1,15 @@
 -- The order of checks, for every message: where a check fails and those before it hold, its answer is given, whatever fails after it.
 -- And a body in its wrapping is read as the body.
 -- Assumes nothing.
-use mathlib.Core.Path.{_≡_, ap, _∙_}
-use mathlib.Core.Bool.{Bool, true, false}
+use mathlib.Core.Path.{_≡_}
+use mathlib.Core.Bool.{true, false}
 use mathlib.Core.List.{List}
 use Prim.Native.Nat.{ℕ, _≤_}
 use native.Mathlib.Omega.{arith}
 use borrow.Author.Tests.{le-leb}
 use lib.Dec.{ltb}
 use lib.ListN.{length}
-use Rattle.crc.specs.Crc.{passesOf, sealed, unsealed}
+use Rattle.crc.specs.Crc.{passesOf, sealed}
 use Rattle.crc.proofs.Sealed.{length-sealed, sealed-passes, unsealed-sealed}
 use Rattle.modbus.specs.Shape.{unitOf, functionOf, servedOf, formedOf}
 use Rattle.modbus.specs.Mapping.{within, atOnce, readOf}

@@ -1,14 +1,14 @@
 -- What is known of an accepted order: it is on a line 1 to 4, that of its unit, its id is the offset's low byte, and its request had
--- the right form. Unit 5 never makes one.
+-- the right form. Unit 5 never makes one. Of a message of bytes, the question's fields are those of a word.
 -- Assumes nothing.
 use mathlib.Core.Path.{_≡_, refl, sym, ap, _∙_}
 use mathlib.Core.Bool.{Bool, true, false, cond, not, _&&_}
-use mathlib.Core.List.{List}
-use Prim.Native.Nat.{ℕ, _+_, _*_, _%_, _≤_, _<_}
+use mathlib.Core.List.{List, [], _∷_}
+use Prim.Native.Nat.{ℕ, zero, suc, _+_, _-_, _*_, _%_, _≤_, _<_}
 use native.Mathlib.Omega.{arith}
 use borrow.Author.Tests.{leb-true, eqb-true, eqb-false}
-use lib.Dec.{eqb, leb, ltb}
-use lib.ListN.{length, getD}
+use lib.Dec.{eqb, leb, ltb, lit<}
+use lib.ListN.{length, getD, take}
 use Rattle.word.specs.Bytes.{pairAt}
 use Rattle.word.proofs.Match.{both}
 use Rattle.word.proofs.Place.{pair-past}
@@ -16,7 +16,6 @@ use Rattle.crc.specs.Crc.{passesOf, unsealed}
 use Rattle.modbus.specs.declared.Form.{Form}
 use Rattle.modbus.specs.declared.Order.{Order}
 use Rattle.modbus.specs.declared.QuestionType.{QuestionType}
-use Rattle.modbus.specs.declared.Reading.{Reading}
 use Rattle.modbus.specs.declared.Reading.the-variants.{Silent, AtOnce, Accepted}
 use Rattle.modbus.specs.declared.Reply.{Reply}
 use Rattle.modbus.specs.declared.Reply.the-variants.{Exception, Value}
@@ -25,7 +24,7 @@ use Rattle.modbus.specs.declared.map.Typed.the-variants.{Known, Unnamed}
 use Rattle.modbus.specs.declared.rows.Found.{Found}
 use Rattle.modbus.specs.declared.rows.Found.the-variants.{First, Nothing}
 use Rattle.modbus.specs.declared.shape.Fields.{Fields}
-use Rattle.modbus.specs.Shape.{unitOf, functionOf, servedOf, bothFormed, formedOf, fieldsOf}
+use Rattle.modbus.specs.Shape.{unitOf, functionOf, servedOf, bothFormed, formedOf, readFields, writeFields, bothFields, fieldsOf}
 use Rattle.modbus.specs.Mapping.{
   unless,
   within,
@@ -149,3 +148,42 @@ nothing-written b e w =
     let n : length b ≡ 11 + getD b 10 0 = eqb-true _ _ (p .0) in
     let c : getD b 10 0 ≡ pairAt b 8 * 2 = eqb-true _ _ (q .0) in
     pair-past b 11 (omega arith)
+
+-- ---- of a message of bytes, the question's fields are those of a word
+
+-- every element is a byte
+abbrev pub Bytes : List ℕ → Type 0
+Bytes s = (k : ℕ) → getD s k 0 < 256
+
+take-bytes : (n : ℕ) (s : List ℕ) → Bytes s → Bytes (take n s)
+take-bytes zero s h k = lit< tt
+take-bytes (suc n) [] h k = lit< tt
+take-bytes (suc n) (x ∷ s) h zero = h 0
+take-bytes (suc n) (x ∷ s) h (suc k) = take-bytes n s (λ j. h (suc j)) k
+
+pair-fits : (s : List ℕ) (p : ℕ) → Bytes s → pairAt s p < 65536
+unfolding pairAt
+pair-fits s p h = omega (arith, h p, h (p + 1))
+
+value-fits : (f : ℕ) (b : List ℕ) → Bytes b → fieldsOf f b .value < 65536
+unfolding fieldsOf
+value-fits f b h = go (eqb f 0x06) (eqb f 0x10) (eqb f 0x17) (eqb f 0x41)
+  where
+    go : (one many sides whole : Bool) →
+        cond one (writeFields f (pairAt b 2) (pairAt b 4) 0)
+        (cond many (writeFields f (pairAt b 2) (pairAt b 7) 0)
+        (cond sides (bothFields b)
+        (cond whole (writeFields f (pairAt b 2) (pairAt b 4) (pairAt b 6)) (readFields f (pairAt b 2))))) .value < 65536
+    go true many sides whole = pair-fits b 4 h
+    go false true sides whole = pair-fits b 7 h
+    go false false true whole = pair-fits b 11 h
+    go false false false true = pair-fits b 4 h
+    go false false false false = lit< tt
+
+pub question-fits : (s : List ℕ) (o : Order) → Bytes s → requestOf s ≡ Accepted o → (o .question .id < 256) × (o .question .value < 65536)
+question-fits s o h e =
+    let t = accepted s o e in
+    let b = unsealed s in
+    let i : o .question .id ≡ o .offset % 256 = id-of-offset s o e in
+    let v : o .question .value ≡ fieldsOf (functionOf b) b .value = ap (λ (p : Order). p .question .value) (t .made .same) in
+    (omega arith, omega (arith, value-fits (functionOf b) b (take-bytes (length s - 2) s h)))

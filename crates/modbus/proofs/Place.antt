@@ -36,7 +36,7 @@ two-more b room x y h =
 -- a body t of n bytes is placed, and its checksum c behind it, low byte first
 module _ (r : Reply) (room t last : List ℕ) (n c lo hi : ℕ) (et : t ≡ bodyOf r) (en : length t ≡ n) (hn : n ≤ 8) (ec : c ≡ crcOf t)
     (elo : lo ≡ c % 256) (ehi : hi ≡ c / 256) (el : last ≡ placed t room) (h : 16 ≤ length room) where
-  pub counted : Count (n + 2) ≡ writtenOf r room
+  counted : Count (n + 2) ≡ writtenOf r room
   unfolding writtenOf bytesOf sealed
   counted =
       rw (
@@ -45,7 +45,7 @@ module _ (r : Reply) (room t last : List ℕ) (n c lo hi : ℕ) (et : t ≡ body
         ← en,
       ) (ap Count (sym (length-append t (crcOf t % 256 ∷ crcOf t / 256 ∷ []))))
 
-  pub filled : set (set last n lo) (n + 1) hi ≡ roomOf r room
+  filled : set (set last n lo) (n + 1) hi ≡ roomOf r room
   unfolding roomOf bytesOf sealed
   filled =
       rw (
@@ -55,3 +55,6 @@ module _ (r : Reply) (room t last : List ℕ) (n c lo hi : ℕ) (et : t ≡ body
       (ap₂ (λ (l : List ℕ) (k : ℕ). set (set l k lo) (k + 1) hi) el (sym en)
       ∙ two-more t room lo hi (omega arith)
       ∙ ap₂ (λ (x y : ℕ). placed (t ++ (x ∷ y ∷ [])) room) (elo ∙ ap (λ (z : ℕ). z % 256) ec) (ehi ∙ ap (λ (z : ℕ). z / 256) ec))
+
+  pub written : (Count (n + 2) ≡ writtenOf r room) × (set (set last n lo) (n + 1) hi ≡ roomOf r room)
+  written = (counted, filled)

@@ -167,8 +167,10 @@ pub fn write(r: Reply, room: &mut [u8]) -> Written
     let bytes = body.bytes;
     let n = body.count;
     let c = crc::checksum(&bytes[..n]);
+    let first = low(c);
+    let second = high(c);
     put(&bytes[..n], room);
-    room[n] = low(c);
-    room[n + 1] = high(c);
+    room[n] = first;
+    room[n + 1] = second;
     Written::Count(n + 2)
 }
