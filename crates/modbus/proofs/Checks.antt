@@ -1,5 +1,5 @@
 -- The order of checks, for every message: where a check fails and those before it hold, its answer is given, whatever fails after it.
--- And a body in its wrapping is read as the body.
+-- And a body in its wrapping is read as the body; a small room is refused and stays.
 -- Assumes nothing.
 use mathlib.Core.Path.{_≡_}
 use mathlib.Core.Bool.{true, false}
@@ -7,14 +7,15 @@ use mathlib.Core.List.{List}
 use Prim.Native.Nat.{ℕ, _≤_}
 use native.Mathlib.Omega.{arith}
 use borrow.Author.Tests.{le-leb}
-use lib.Dec.{ltb}
+use lib.Dec.{leb, ltb}
 use lib.ListN.{length}
 use Rattle.crc.specs.Crc.{passesOf, sealed}
 use Rattle.crc.proofs.Sealed.{length-sealed, sealed-passes, unsealed-sealed}
+use Rattle.modbus.specs.declared.Reply.{Reply}
 use Rattle.modbus.specs.Shape.{unitOf, functionOf, servedOf, formedOf}
 use Rattle.modbus.specs.Mapping.{within, atOnce, readOf}
-use Rattle.modbus.specs.Numbers.{refusalOf}
-use Rattle.modbus.specs.Wire.{requestOf}
+use Rattle.modbus.specs.Numbers.{refusalOf, roomRefusal}
+use Rattle.modbus.specs.Wire.{requestOf, writtenOf, roomOf}
 
 -- "length 4 to 256; checksum"
 module _ (s : List ℕ) where
@@ -50,3 +51,8 @@ unfolding requestOf
 unwrapped b h k =
     let n = length-sealed b in
     rw (le-leb 4 (length (sealed b)) (omega arith), le-leb (length (sealed b)) 256 (omega arith), sealed-passes b, unsealed-sealed b)
+
+-- refusal 15: "lent room below 16 bytes (reply)", and "every lent byte stay[s]"
+pub fifteen : (r : Reply) (room : List ℕ) → leb 16 (length room) ≡ false → (roomRefusal (writtenOf r room) ≡ 15) × (roomOf r room ≡ room)
+unfolding writtenOf roomOf
+fifteen r room h = (rw h, rw h)

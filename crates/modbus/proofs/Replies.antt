@@ -16,7 +16,8 @@ use Rattle.modbus.specs.declared.Outcome.{Outcome}
 use Rattle.modbus.specs.declared.Outcome.the-variants.{Answer, NoAnswer}
 use Rattle.modbus.specs.declared.Reply.{Reply}
 use Rattle.modbus.specs.declared.Reply.the-variants.{Exception, Value, Offset, Zero, Whole}
-use Rattle.modbus.specs.Outcomes.{exceptionOf, codeOf, plainOf, ofInvalid, answeredOf, answerOf}
+use Rattle.modbus.specs.Numbers.{exceptionCode}
+use Rattle.modbus.specs.Outcomes.{exceptionOf, busyOf, codeOf, plainOf, ofInvalid, answeredOf, answerOf}
 use Rattle.modbus.specs.Wire.{bodyOf, bytesOf}
 
 short-body : (r : Reply) → length (bodyOf r) ≤ 8
@@ -66,3 +67,12 @@ pub same-unit : (o : Order) (w : Outcome) → unitOfReply (answerOf o w) ≡ o .
 unfolding answerOf bodyOf
 same-unit o (Answer t v) = answered-unit (o .form) o t v
 same-unit o NoAnswer = refl
+
+-- "no answer is 0B", for every order
+pub no-answer : (o : Order) → exceptionCode (answerOf o NoAnswer) ≡ 0x0b
+unfolding answerOf
+no-answer o = refl
+
+-- "an order already waiting (06 ..)"
+pub busy-code : (o : Order) → exceptionCode (busyOf o) ≡ 0x06
+busy-code o = refl
