@@ -1,0 +1,86 @@
+-- A bit of the checksum is linear in xor, so eight bits of a number are its high byte xored with the eight bits of its low byte.
+-- Assumes nothing.
+use mathlib.Core.Path.{_≡_, refl, sym, ap, ap₂, _∙_}
+use Prim.Native.Nat.{ℕ, zero, suc, _+_, _*_, _/_, _%_, _^_, _<_}
+use native.Mathlib.Nat.{mod-lt, zero-lt-suc, mul-one}
+use native.Mathlib.Omega.{arith}
+use lib.Arith.{bin-ind, digits-div, digits-mod}
+use lib.Pow.{split, pow-pos}
+use lib.Bits.{bitXor, differ, xor-step, xor-zero-r, xor-shifted, shifted-half, shifted-even, xor-comm}
+use Rattle.crc.specs.Crc.{crcBit, crcBits}
+
+two-pos : 0 < 2
+two-pos = zero-lt-suc 1
+
+differ-lt : (x y : ℕ) → x < 2 → y < 2 → differ x y < 2
+differ-lt zero y a b = b
+differ-lt (suc zero) zero a b = a
+differ-lt (suc zero) (suc zero) a b = two-pos
+differ-lt (suc (suc x)) y a b = absurd (let z : ⊥ = omega arith in z)
+differ-lt (suc zero) (suc (suc y)) a b = absurd (let z : ⊥ = omega arith in z)
+
+differ-assoc : (x y z : ℕ) → x < 2 → y < 2 → z < 2 → differ (differ x y) z ≡ differ x (differ y z)
+differ-assoc zero y z a b c = refl
+differ-assoc (suc zero) zero z a b c = refl
+differ-assoc (suc zero) (suc zero) zero a b c = refl
+differ-assoc (suc zero) (suc zero) (suc zero) a b c = refl
+differ-assoc (suc zero) (suc zero) (suc (suc z)) a b c = absurd (let z : ⊥ = omega arith in z)
+differ-assoc (suc zero) (suc (suc y)) z a b c = absurd (let z : ⊥ = omega arith in z)
+differ-assoc (suc (suc x)) y z a b c = absurd (let z : ⊥ = omega arith in z)
+
+-- the last digit, and what stands above it
+pub low : (a b : ℕ) → bitXor a b % 2 ≡ differ (a % 2) (b % 2)
+low a b = ap (λ (x : ℕ). x % 2) (xor-step a b) ∙ digits-mod (bitXor (a / 2) (b / 2)) (differ-lt (a % 2) (b % 2) (mod-lt a two-pos) (mod-lt b two-pos))
+
+pub high : (a b : ℕ) → bitXor a b / 2 ≡ bitXor (a / 2) (b / 2)
+high a b = ap (λ (x : ℕ). x / 2) (xor-step a b) ∙ digits-div (bitXor (a / 2) (b / 2)) (differ-lt (a % 2) (b % 2) (mod-lt a two-pos) (mod-lt b two-pos))
+
+pub xor-assoc : (a b c : ℕ) → bitXor (bitXor a b) c ≡ bitXor a (bitXor b c)
+xor-assoc a =
+    bin-ind (λ (n : ℕ). (b c : ℕ) → bitXor (bitXor n b) c ≡ bitXor n (bitXor b c)) (λ b c. refl)
+    (λ n ih b c.
+    xor-step (bitXor n b) c
+    ∙ ap₂ (λ (x y : ℕ). bitXor x (c / 2) * 2 + differ y (c % 2)) (high n b) (low n b)
+    ∙ ap₂ (λ (x y : ℕ). x * 2 + y) (ih (b / 2) (c / 2)) (differ-assoc (n % 2) (b % 2) (c % 2) (mod-lt n two-pos) (mod-lt b two-pos) (mod-lt c two-pos))
+    ∙ sym (xor-step n (bitXor b c)
+    ∙ ap₂ (λ (x y : ℕ). bitXor (n / 2) x * 2 + differ (n % 2) y) (high b c) (low b c))) a
+
+-- two pairs, the other way round
+pub swap : (a b c d : ℕ) → bitXor (bitXor a b) (bitXor c d) ≡ bitXor (bitXor a c) (bitXor b d)
+swap a b c d =
+    xor-assoc a b (bitXor c d)
+    ∙ ap (bitXor a) (sym (xor-assoc b c d) ∙ ap (λ (x : ℕ). bitXor x d) (xor-comm b c) ∙ xor-assoc c b d)
+    ∙ sym (xor-assoc a c (bitXor b d))
+
+feed : (x y : ℕ) → x < 2 → y < 2 → differ x y * 0xa001 ≡ bitXor (x * 0xa001) (y * 0xa001)
+feed zero y a b = refl
+feed (suc zero) zero a b = refl
+feed (suc zero) (suc zero) a b = refl
+feed (suc (suc x)) y a b = absurd (let z : ⊥ = omega arith in z)
+feed (suc zero) (suc (suc y)) a b = absurd (let z : ⊥ = omega arith in z)
+
+pub bit-linear : (a b : ℕ) → crcBit (bitXor a b) ≡ bitXor (crcBit a) (crcBit b)
+bit-linear a b =
+    ap₂ (λ (x y : ℕ). bitXor x (y * 0xa001)) (high a b) (low a b)
+    ∙ ap (bitXor (bitXor (a / 2) (b / 2))) (feed (a % 2) (b % 2) (mod-lt a two-pos) (mod-lt b two-pos))
+    ∙ swap (a / 2) (b / 2) (a % 2 * 0xa001) (b % 2 * 0xa001)
+
+pub linear : (k a b : ℕ) → crcBits k (bitXor a b) ≡ bitXor (crcBits k a) (crcBits k b)
+unfolding crcBits
+linear zero a b = refl
+linear (suc k) a b = ap (crcBits k) (bit-linear a b) ∙ linear k (crcBit a) (crcBit b)
+
+-- k bits with nothing in the low k digits only shift
+pub shifts : (k a : ℕ) → crcBits k (a * 2 ^ k) ≡ a
+unfolding crcBits
+shifts zero a = mul-one a
+shifts (suc k) a =
+    ap (crcBits k)
+    (ap₂ (λ (x y : ℕ). bitXor x (y * 0xa001)) (shifted-half a k) (shifted-even a k) ∙ xor-zero-r (a * 2 ^ k))
+    ∙ shifts k a
+
+pub by-parts : (k x : ℕ) → crcBits k x ≡ bitXor (x / 2 ^ k) (crcBits k (x % 2 ^ k))
+by-parts k x =
+    ap (crcBits k) (sym (split x k) ∙ sym (xor-shifted (x / 2 ^ k) k (x % 2 ^ k) (mod-lt x (pow-pos k))))
+    ∙ linear k (x / 2 ^ k * 2 ^ k) (x % 2 ^ k)
+    ∙ ap (λ (y : ℕ). bitXor y (crcBits k (x % 2 ^ k))) (shifts k (x / 2 ^ k))

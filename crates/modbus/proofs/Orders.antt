@@ -1,0 +1,189 @@
+-- What is known of an accepted order: it is on a line 1 to 4, that of its unit, its id is the offset's low byte, and its request had
+-- the right form. Unit 5 never makes one. Of a message of bytes, the question's fields are those of a word.
+-- Assumes nothing.
+use mathlib.Core.Path.{_≡_, refl, sym, ap, _∙_}
+use mathlib.Core.Bool.{Bool, true, false, cond, not, _&&_}
+use mathlib.Core.List.{List, [], _∷_}
+use Prim.Native.Nat.{ℕ, zero, suc, _+_, _-_, _*_, _%_, _≤_, _<_}
+use native.Mathlib.Omega.{arith}
+use borrow.Author.Tests.{leb-true, eqb-true, eqb-false}
+use lib.Dec.{eqb, leb, ltb, lit<}
+use lib.ListN.{length, getD, take}
+use Rattle.word.specs.Bytes.{pairAt}
+use Rattle.word.proofs.Match.{both}
+use Rattle.word.proofs.Place.{pair-past}
+use Rattle.crc.specs.Crc.{passesOf, unsealed}
+use Rattle.modbus.specs.declared.Form.{Form}
+use Rattle.modbus.specs.declared.Order.{Order}
+use Rattle.modbus.specs.declared.QuestionType.{QuestionType}
+use Rattle.modbus.specs.declared.Reading.the-variants.{Silent, AtOnce, Accepted}
+use Rattle.modbus.specs.declared.Reply.{Reply}
+use Rattle.modbus.specs.declared.Reply.the-variants.{Exception, Value}
+use Rattle.modbus.specs.declared.map.Typed.{Typed}
+use Rattle.modbus.specs.declared.map.Typed.the-variants.{Known, Unnamed}
+use Rattle.modbus.specs.declared.rows.Found.{Found}
+use Rattle.modbus.specs.declared.rows.Found.the-variants.{First, Nothing}
+use Rattle.modbus.specs.declared.shape.Fields.{Fields}
+use Rattle.modbus.specs.Shape.{unitOf, functionOf, servedOf, bothFormed, formedOf, readFields, writeFields, bothFields, fieldsOf}
+use Rattle.modbus.specs.Mapping.{
+  unless,
+  within,
+  rows,
+  firstOf,
+  typeFrom,
+  orderOf,
+  atOnce,
+  typedAs,
+  askOf,
+  foundAs,
+  unlikeOf,
+  mappedOf,
+  ownOf,
+  readOf,
+}
+use Rattle.modbus.specs.Wire.{requestOf}
+
+-- a check whose answer is another one has passed
+pub passed : {A : Type 0} (holds : Bool) (answer next r : A) → unless holds answer next ≡ r → (answer ≡ r → ⊥) → (holds ≡ true) × (next ≡ r)
+passed true answer next r e n = (refl, e)
+passed false answer next r e n = absurd (n e)
+
+silent-never : (n : ℕ) (o : Order) → Silent n ≡ Accepted o → ⊥
+silent-never n o e = let z : _≡_ {A = ℕ} 0 1 = cc in omega arith
+
+at-once-never : (r : Reply) (o : Order) → AtOnce r ≡ Accepted o → ⊥
+at-once-never r o e = let z : _≡_ {A = ℕ} 0 1 = cc in omega arith
+
+own-never : (a : Fields) (o : Order) → ownOf a ≡ Accepted o → ⊥
+unfolding ownOf
+own-never a o = go (eqb (a .reads) 1 && eqb (a .from) 0x0076)
+  where
+    go : (b : Bool) → cond b (AtOnce (Value 5 (a .function) 0x0100)) (atOnce 5 (a .function) 0x02) ≡ Accepted o → ⊥
+    go true e = at-once-never (Value 5 (a .function) 0x0100) o e
+    go false e = at-once-never (Exception 5 (a .function) 0x02) o e
+
+-- the order that a row's fields make, of some type and form
+pub record Made (u : ℕ) (a : Fields) (o : Order) : Type 0 where
+  pub t : QuestionType
+  pub m : Form
+  pub same : o ≡ orderOf u a t m
+
+typed-made : (u : ℕ) (a : Fields) (m : Form) (t : Typed) (o : Order) → typedAs u a m t ≡ Accepted o → Made u a o
+typed-made u a m (Known t) o e = record { t = t; m = m; same = cc }
+typed-made u a m Unnamed o e = absurd (at-once-never (Exception u (a .function) 0x03) o e)
+
+found-made : (u : ℕ) (a : Fields) (f : Found) (o : Order) → foundAs u a f ≡ Accepted o → Made u a o
+unfolding askOf
+found-made u a (First r) o e = typed-made u a (r .5) (typeFrom (r .4) (a .message)) o e
+found-made u a Nothing o e = absurd (at-once-never (Exception u (a .function) 0x02) o e)
+
+mapped-made : (u : ℕ) (a : Fields) (o : Order) → mappedOf u a ≡ Accepted o → Made u a o
+unfolding mappedOf
+mapped-made u a o e =
+    let p = passed (not (unlikeOf a)) (atOnce u (a .function) 0x02) (foundAs u a (firstOf rows a)) (Accepted o) e
+    (at-once-never (Exception u (a .function) 0x02) o) in
+    found-made u a (firstOf rows a) o (p .1)
+
+pub record Taken (b : List ℕ) (o : Order) : Type 0 where
+  pub low : 1 ≤ unitOf b
+  pub high : unitOf b ≤ 4
+  pub formed : formedOf (functionOf b) b ≡ true
+  pub made : Made (unitOf b) (fieldsOf (functionOf b) b) o
+
+-- a body that is read as an order
+pub taken : (b : List ℕ) (o : Order) → readOf b ≡ Accepted o → Taken b o
+unfolding readOf
+taken b o e =
+    let u = unitOf b in
+    let f = functionOf b in
+    let a = fieldsOf f b in
+    let last = cond (eqb u 5) (ownOf a) (mappedOf u a) in
+    let one = passed (within 1 5 u) (Silent 13) _ (Accepted o) e (silent-never 13 o) in
+    let two = passed (ltb f 0x80) (Silent 14) _ (Accepted o) (one .1) (silent-never 14 o) in
+    let three = passed (servedOf u f) (atOnce u f 0x01) _ (Accepted o) (two .1) (at-once-never (Exception u f 0x01) o) in
+    let four = passed (formedOf f b) (atOnce u f 0x03) last (Accepted o) (three .1) (at-once-never (Exception u f 0x03) o) in
+    let units = both (leb 1 u) (leb u 5) (one .0) in
+    go (eqb u 5) refl (leb-true 1 u (units .0)) (leb-true u 5 (units .1)) (four .0) (four .1)
+  where
+    go : (five : Bool) → eqb (unitOf b) 5 ≡ five → 1 ≤ unitOf b → unitOf b ≤ 5 → formedOf (functionOf b) b ≡ true
+        → cond five (ownOf (fieldsOf (functionOf b) b)) (mappedOf (unitOf b) (fieldsOf (functionOf b) b)) ≡ Accepted o → Taken b o
+    go true h lo hi fm e = absurd (own-never (fieldsOf (functionOf b) b) o e)
+    go false h lo hi fm e =
+        let other : unitOf b ≡ 5 → ⊥ = eqb-false (unitOf b) 5 h in
+        record {
+          low = lo;
+          high = omega (arith, other);
+          formed = fm;
+          made = mapped-made (unitOf b) (fieldsOf (functionOf b) b) o e;
+        }
+
+-- and a whole message
+pub accepted : (s : List ℕ) (o : Order) → requestOf s ≡ Accepted o → Taken (unsealed s) o
+unfolding requestOf
+accepted s o e =
+    let one = passed (within 4 256 (length s)) (Silent 11) _ (Accepted o) e (silent-never 11 o) in
+    let two = passed (passesOf s) (Silent 12) _ (Accepted o) (one .1) (silent-never 12 o) in
+    taken (unsealed s) o (two .1)
+
+-- "Units 1 to 4 are the lines of the same number"; "Unit 5 .. never makes an order"
+pub on-line : (s : List ℕ) (o : Order) → requestOf s ≡ Accepted o → (o .line ≡ unitOf (unsealed s)) × ((1 ≤ o .line) × (o .line ≤ 4))
+on-line s o e =
+    let t = accepted s o e in
+    let l : o .line ≡ unitOf (unsealed s) = ap (λ (p : Order). p .line) (t .made .same) in
+    (l, (omega (arith, t .low), omega (arith, t .high)))
+
+-- "The id is the offset's low byte."
+pub id-of-offset : (s : List ℕ) (o : Order) → requestOf s ≡ Accepted o → o .question .id ≡ o .offset % 256
+id-of-offset s o e =
+    let t = accepted s o e in
+    ap (λ (p : Order). p .question .id) (t .made .same) ∙ sym (ap (λ (p : Order). p .offset % 256) (t .made .same))
+
+-- "17, read 1 write 0, any offset | READ-DATA, value 0": with nothing written the value is 0
+pub nothing-written : (b : List ℕ) → bothFormed b ≡ true → pairAt b 8 ≡ 0 → pairAt b 11 ≡ 0
+unfolding bothFormed
+nothing-written b e w =
+    let rest = leb (pairAt b 4) 1 && (leb (pairAt b 8) 1 && leb 1 (pairAt b 4 + pairAt b 8)) in
+    let p = both (eqb (length b) (11 + getD b 10 0)) (eqb (getD b 10 0) (pairAt b 8 * 2) && rest) e in
+    let q = both (eqb (getD b 10 0) (pairAt b 8 * 2)) rest (p .1) in
+    let n : length b ≡ 11 + getD b 10 0 = eqb-true _ _ (p .0) in
+    let c : getD b 10 0 ≡ pairAt b 8 * 2 = eqb-true _ _ (q .0) in
+    pair-past b 11 (omega arith)
+
+-- ---- of a message of bytes, the question's fields are those of a word
+
+-- every element is a byte
+abbrev pub Bytes : List ℕ → Type 0
+Bytes s = (k : ℕ) → getD s k 0 < 256
+
+take-bytes : (n : ℕ) (s : List ℕ) → Bytes s → Bytes (take n s)
+take-bytes zero s h k = lit< tt
+take-bytes (suc n) [] h k = lit< tt
+take-bytes (suc n) (x ∷ s) h zero = h 0
+take-bytes (suc n) (x ∷ s) h (suc k) = take-bytes n s (λ j. h (suc j)) k
+
+pair-fits : (s : List ℕ) (p : ℕ) → Bytes s → pairAt s p < 65536
+unfolding pairAt
+pair-fits s p h = omega (arith, h p, h (p + 1))
+
+value-fits : (f : ℕ) (b : List ℕ) → Bytes b → fieldsOf f b .value < 65536
+unfolding fieldsOf
+value-fits f b h = go (eqb f 0x06) (eqb f 0x10) (eqb f 0x17) (eqb f 0x41)
+  where
+    go : (one many sides whole : Bool) →
+        cond one (writeFields f (pairAt b 2) (pairAt b 4) 0)
+        (cond many (writeFields f (pairAt b 2) (pairAt b 7) 0)
+        (cond sides (bothFields b)
+        (cond whole (writeFields f (pairAt b 2) (pairAt b 4) (pairAt b 6)) (readFields f (pairAt b 2))))) .value < 65536
+    go true many sides whole = pair-fits b 4 h
+    go false true sides whole = pair-fits b 7 h
+    go false false true whole = pair-fits b 11 h
+    go false false false true = pair-fits b 4 h
+    go false false false false = lit< tt
+
+pub question-fits : (s : List ℕ) (o : Order) → Bytes s → requestOf s ≡ Accepted o → (o .question .id < 256) × (o .question .value < 65536)
+question-fits s o h e =
+    let t = accepted s o e in
+    let b = unsealed s in
+    let i : o .question .id ≡ o .offset % 256 = id-of-offset s o e in
+    let v : o .question .value ≡ fieldsOf (functionOf b) b .value = ap (λ (p : Order). p .question .value) (t .made .same) in
+    (omega arith, omega (arith, value-fits (functionOf b) b (take-bytes (length s - 2) s h)))

@@ -1,0 +1,25 @@
+-- A question's type is 0 to 2, so its word is always built.
+-- Assumes nothing.
+use mathlib.Core.Path.{_≡_, refl}
+use Prim.Native.Nat.{ℕ, _≤_}
+use native.Mathlib.Omega.{arith}
+use lib.Dec.{lit≤}
+use Rattle.word.specs.Frame.{bare, evened, builtOf}
+use Rattle.word.specs.declared.Built.the-variants.{Word, Refused}
+use Rattle.modbus.specs.declared.QuestionType.{QuestionType}
+use Rattle.modbus.specs.declared.QuestionType.the-variants.{ReadData, WriteData, InvalidData}
+use Rattle.modbus.specs.Mapping.{typeNumber}
+
+pub small-type : (t : QuestionType) → typeNumber t ≤ 2
+small-type ReadData = lit≤ tt
+small-type WriteData = lit≤ tt
+small-type InvalidData = lit≤ tt
+
+pub always-built : (t : QuestionType) (i v : ℕ) → builtOf (typeNumber t) i v ≡ Word (evened (bare (typeNumber t) i v))
+unfolding builtOf
+always-built ReadData i v = refl
+always-built WriteData i v = refl
+always-built InvalidData i v = refl
+
+pub never-refused : (n : ℕ) (t : QuestionType) (i v : ℕ) → Refused n ≡ builtOf (typeNumber t) i v → ⊥
+never-refused n t i v e = let built = always-built t i v in let z : _≡_ {A = ℕ} 0 1 = cc in omega arith

@@ -1,0 +1,46 @@
+-- The reply to an order (01, 'Modbus'), from what it came to.
+-- Assumes nothing: these are definitions.
+use Prim.Native.Nat.{ℕ}
+use mathlib.Core.Bool.{cond, _||_}
+use lib.Dec.{eqb}
+use Rattle.word.specs.Frame.{data-invalid, unknown-dataid}
+use Rattle.modbus.specs.declared.Form.{Form}
+use Rattle.modbus.specs.declared.Form.the-variants as form
+use Rattle.modbus.specs.declared.Order.{Order}
+use Rattle.modbus.specs.declared.Outcome.{Outcome}
+use Rattle.modbus.specs.declared.Outcome.the-variants.{Answer, NoAnswer}
+use Rattle.modbus.specs.declared.Reply.{Reply}
+use Rattle.modbus.specs.declared.Reply.the-variants.{Exception, Value, Offset, Zero, Whole}
+
+abbrev pub exceptionOf : Order → ℕ → Reply
+exceptionOf o code = Exception (o .line) (o .function) code
+
+-- "an order already waiting (06, units 1 to 4 only)"
+abbrev pub busyOf : Order → Reply
+busyOf o = exceptionOf o 0x06
+
+-- "type 7 is exception 02, type 6 is 04"
+unfoldable pub codeOf : ℕ → ℕ
+codeOf t = cond (eqb t unknown-dataid) 0x02 0x04
+
+unfoldable pub plainOf : Order → ℕ → Reply → Reply
+plainOf o t normal = cond (eqb t data-invalid || eqb t unknown-dataid) (exceptionOf o (codeOf t)) normal
+
+unfoldable pub ofInvalid : Order → ℕ → Reply → Reply
+ofInvalid o t normal = cond (eqb t unknown-dataid) (exceptionOf o (codeOf t)) normal
+
+-- the table's third column, a line a form, for a boiler's frame of type t and value v; "Type 6 is a normal reply in the last 17 row;
+-- 41 gives types 4 to 7 as normal replies"
+unfoldable pub answeredOf : Form → Order → ℕ → ℕ → Reply
+answeredOf form.Value o t v = plainOf o t (Value (o .line) (o .function) v)
+answeredOf form.OffsetValue o t v = plainOf o t (Offset (o .line) (o .function) (o .offset) v)
+answeredOf form.OffsetOne o t v = plainOf o t (Offset (o .line) (o .function) (o .offset) 0x0001)
+answeredOf form.Zero o t v = plainOf o t (Zero (o .line) (o .function))
+answeredOf form.Never o t v = exceptionOf o (codeOf t)
+answeredOf form.ValueOfInvalid o t v = ofInvalid o t (Value (o .line) (o .function) v)
+answeredOf form.Whole o t v = Whole (o .line) (o .offset) v t
+
+-- "no answer is 0B"
+unfoldable pub answerOf : Order → Outcome → Reply
+answerOf o (Answer t v) = answeredOf (o .form) o t v
+answerOf o NoAnswer = exceptionOf o 0x0b
