@@ -5,6 +5,8 @@ use lib.Count.{onesIn}
 use lib.Ieee.{toBits, round}
 use Rattle.word.proofs.Worked.{built-is}
 use Rattle.values.specs.Real.{realOf}
+use Rattle.crc.proofs.Tried.{p8}
+use Rattle.line.proofs.Tried.{p9, p10, p12}
 use Rattle.samples.proofs.Tried.{p11}
 use Rattle.cases.specs.Tried.{Tried}
 
@@ -22,5 +24,9 @@ tried =
       p6-is = (refl, refl);
       p7 = refl;
       p7-is = (refl, refl);
+      p8 = p8;
+      p9 = p9;
+      p10 = p10;
       p11 = p11;
+      p12 = p12;
     }
