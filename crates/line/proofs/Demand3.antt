@@ -13,7 +13,7 @@ use Rattle.line.specs.declared.Question.{Question}
 use Rattle.line.specs.declared.Order.the-variants.{Waits}
 use Rattle.line.specs.declared.Said.{Said}
 use Rattle.line.specs.declared.Said.the-variants.{Quiet, Taken, Busy}
-use Rattle.line.specs.Turns.{freshLine, says, wordOf, underWay, orderOf}
+use Rattle.line.specs.Turns.{freshLine, says, underWay, orderOf}
 use Rattle.line.specs.Events.{Event, order, accepted, exception, noteOf, Events}
 use Rattle.line.specs.Promise.{Demand3}
 use Rattle.line.specs.History.{doOf, lineAt, saidAt, notes, Own, of, run}
@@ -26,8 +26,7 @@ demand3 h = promise 1950 (omega arith) Own h (notes h) (λ n. life (lineAt h n))
 
 -- an order's own frame has the question's own word
 pub own-word : (j : ℕ) (w : Question) (q : Frame) → Own j w q → q .word ≡ w .word
-unfolding wordOf
-own-word j w q own = ap (λ (f : Frame). f .word) (own freshLine)
+own-word j w q own = ap (λ (f : Frame). f .word) own
 
 -- to each order a line says that it is accepted, or exception 06
 pub order-said : (h : Events) (k : ℕ) (w : Question) → h k ≡ order w → (notes h k ≡ accepted) ⊎ (notes h k ≡ exception 6)

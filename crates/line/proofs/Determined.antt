@@ -12,6 +12,8 @@ use Rattle.line.proofs.Line.boiler.Reads as boiler-reads
 use Rattle.line.proofs.Line.boiler.Kinds as boiler-kinds
 use Rattle.line.proofs.Line.order.Reads as order-reads
 use Rattle.line.proofs.Line.order.Kinds as order-kinds
+use Rattle.line.proofs.idle.idle.Reads as idle-reads
+use Rattle.line.proofs.idle.idle.Kinds as idle-kinds
 
 pub fresh-one : One fresh-kinds.ps fresh-kinds.r fresh-reads.Post
 fresh-one κs a u v x y p q = p ∙ sym q
@@ -27,3 +29,6 @@ boiler-one κs a u v x y p q = p ∙ sym q
 
 pub order-one : One order-kinds.ps order-kinds.r order-reads.Post
 order-one κs a u v x y p q = p ∙ sym q
+
+pub idle-one : One idle-kinds.ps idle-kinds.r idle-reads.Post
+idle-one κs a u v x y p q = p ∙ sym q

@@ -101,11 +101,11 @@ tick-rest r Empty Nothing Modbus false e = idle (omega arith) tick-unasked
 tick-rest r (Full f t) Nothing Thermostat false e = idle (omega arith) tick-unasked
 tick-rest r (Full f t) Nothing Modbus false e = idle (omega arith) tick-unasked
 tick-rest r Empty (Waits w u) Thermostat false e =
-    send w (record { word = w .word }) u (left (Rest r) Thermostat) (older u) refl refl (λ l. refl) (λ s. omega arith) (omega arith)
+    send w (record { word = w .word }) u (left (Rest r) Thermostat) (older u) refl refl refl (λ s. omega arith) (omega arith)
 tick-rest r Empty (Waits w u) Modbus false e =
-    send w (record { word = w .word }) u (left (Rest r) Modbus) (older u) refl refl (λ l. refl) (λ s. omega arith) (omega arith)
+    send w (record { word = w .word }) u (left (Rest r) Modbus) (older u) refl refl refl (λ s. omega arith) (omega arith)
 tick-rest r (Full f t) (Waits w u) Thermostat false e =
-    send w (record { word = w .word }) u (left (Rest r) Thermostat) (older u) refl refl (λ l. refl) (λ s. omega arith) (omega arith)
+    send w (record { word = w .word }) u (left (Rest r) Thermostat) (older u) refl refl refl (λ s. omega arith) (omega arith)
 tick-rest r (Full f t) (Waits w u) Modbus false e = wait w u (left (Rest r) Modbus) (older u) 1850 (omega arith) (λ s. omega arith) (omega arith) (omega arith)
 
 -- a tick of a talk

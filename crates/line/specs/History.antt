@@ -10,7 +10,7 @@ use Rattle.line.specs.declared.Question.{Question}
 use Rattle.line.specs.declared.Step.{Step}
 use Rattle.line.specs.declared.Said.{Said}
 use Rattle.line.specs.declared.Said.the-variants.{Quiet}
-use Rattle.line.specs.Turns.{freshLine, says, wordOf, tickOf, thermostatOf, boilerOf, orderOf}
+use Rattle.line.specs.Turns.{freshLine, says, tickOf, thermostatOf, boilerOf, orderOf}
 use Rattle.line.specs.Events.{Event, pass, tick, thermostat, boiler, order, Events, Notes, noteOf}
 
 -- what an event does to a line, and what is said: one of its four methods, or none
@@ -34,9 +34,10 @@ saidAt h n = doOf (lineAt h n) (h n) .said
 abbrev pub notes : Events → Notes
 notes h n = noteOf (saidAt h n)
 
--- q is the frame of the question w: its word is the one that `wordOf` gives, on whatever line
+-- "The word goes out unchanged": q is the frame of the question w, whenever it goes out. (`wordOf` of Turns gives it; where the word comes
+-- to depend on what went out before, this becomes a look-up in the history.)
 abbrev pub Own : ℕ → Question → Frame → Type 0
-Own j w q = (l : Line) → q ≡ record { word = wordOf l w }
+Own j w q = q ≡ record { word = w .word }
 
 -- a list of events as the beginning of a history; nothing happens after it
 abbrev pub of : List Event → Events

@@ -147,7 +147,7 @@ thermostatOf l f =
     (says (record { turn = l .turn; held = Full f 0; order = l .order; last = l .last }) Held))
 
 -- "it is passed on unchanged if its own frame came at most 800 ticks ago and no later one is held; otherwise it is dropped"
-abbrev noneHeld : Slot → Bool
+abbrev pub noneHeld : Slot → Bool
 noneHeld Empty = true
 noneHeld (Full f t) = false
 
@@ -178,7 +178,7 @@ boilerOf l f =
     (heardOf l f))
 
 -- "Only one order waits .., from acceptance until its outcome": one that waits, and one whose own frame is out
-abbrev waits : Order → Bool
+abbrev pub waits : Order → Bool
 waits Nothing = false
 waits (Waits w t) = true
 

@@ -1,12 +1,14 @@
 // One OpenTherm line: who talks, who waits, and for how long (01, 'A line and its turns').
 mod ages;
 mod ends;
+pub mod idle;
 mod start;
 
 use ages::aged;
 use ages::older;
 use ends::answered;
 use ends::silence;
+use idle::idle;
 use start::start;
 use word::Frame;
 use word::even;
@@ -110,6 +112,19 @@ impl Line {
     }
 
     pub fn tick(mut self) -> Step
+        ensures { λ r. ⌜ r ≡ tickOf self ⌝ }
+    {
+        if idle(self) {
+            return Step {
+                line: self,
+                said: Said::Quiet,
+            };
+        }
+        self.moves()
+    }
+
+    // A tick of a line that has something to do.
+    fn moves(mut self) -> Step
         ensures { λ r. ⌜ r ≡ tickOf self ⌝ }
     {
         self = aged(self);
