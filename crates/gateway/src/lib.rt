@@ -1,0 +1,263 @@
+// The whole box: four lines, the one order under way, and the entries with their reply rooms.
+mod four;
+mod settle;
+
+use four::at_line;
+use four::inside;
+use four::line_at;
+use four::lines_of;
+use four::outs_of;
+use four::tick_all;
+use line::Line;
+use line::Talker;
+use modbus::Order;
+use modbus::Reading;
+use modbus::Reply;
+use settle::after_boiler;
+use settle::after_tick;
+use settle::plain;
+use settle::question_of;
+use settle::still;
+use settle::tell;
+use settle::write;
+use word::Frame;
+ghost use mathlib.Core.Path.{_≡_};
+ghost use Prim.Native.Nat.{_≤_};
+ghost use lib.ListN.{length};
+ghost use Rattle.modbus.specs.Wire.{placed};
+ghost use Rattle.gateway.specs.Entries.{
+  freshBox,
+  refusal,
+  stopped as stoppedOf,
+  tickOf,
+  thermostatOf,
+  boilerOf,
+  messageOf,
+  takenOf,
+  asksOf,
+  replied,
+};
+
+// The four lines.
+pub struct Lines {
+    pub one: Line,
+    pub two: Line,
+    pub three: Line,
+    pub four: Line,
+}
+
+// The one order under way in the whole box, from acceptance to outcome.
+pub enum Asked {
+    Nothing,
+    Waits(Order),
+}
+
+pub struct Gateway {
+    pub lines: Lines,
+    pub asked: Asked,
+}
+
+// The frame that goes out on a line, and whose it is.
+pub enum Out {
+    Silent,
+    Sent(Talker, Frame),
+}
+
+pub struct Outs {
+    pub one: Out,
+    pub two: Out,
+    pub three: Out,
+    pub four: Out,
+}
+
+// What the box tells.
+pub enum Told {
+    // A tick without an outcome.
+    Quiet,
+    // A thermostat frame is held; a boiler frame is passed on to the thermostat, or dropped.
+    Held,
+    Passed(Frame),
+    Dropped,
+    // A message is an order now; nothing is written yet.
+    Accepted,
+    // So many bytes in the room, at once.
+    Reply(usize),
+    // So many bytes in the room: the reply to the order under way, and its wait in ticks.
+    Outcome(usize, u16),
+    Refused(u8),
+}
+
+pub struct Ticked {
+    pub gateway: Gateway,
+    pub outs: Outs,
+    pub told: Told,
+}
+
+pub struct Moved {
+    pub gateway: Gateway,
+    pub told: Told,
+}
+
+impl Gateway {
+    // the smallest room that a reply is written into
+    pub const ROOM: usize = 16;
+
+    pub fn fresh() -> Self
+        ensures { λ r. ⌜ r ≡ freshBox ⌝ }
+    {
+        Gateway {
+            lines: Lines {
+                one: Line::fresh(),
+                two: Line::fresh(),
+                three: Line::fresh(),
+                four: Line::fresh(),
+            },
+            asked: Asked::Nothing,
+        }
+    }
+
+    pub fn tick(self, room: &mut [u8]) -> Ticked
+        ensures { λ r. ⌜ (r ≡ tickOf self (length (now (room .entry))) .result) × (now (room .exit) ≡ placed (tickOf self (length (now (room .entry))) .wrote) (now (room .entry))) ⌝ }
+    {
+        if room.len() < Gateway::ROOM {
+            return self.stopped(15);
+        }
+        let lines = self.lines;
+        let asked = self.asked;
+        let steps = tick_all(lines);
+        let settled = after_tick(asked, steps);
+        let told = tell(settled, Told::Quiet, room);
+        Ticked {
+            gateway: Gateway {
+                lines: lines_of(steps),
+                asked: still(asked, settled),
+            },
+            outs: outs_of(steps),
+            told: told,
+        }
+    }
+
+    pub fn thermostat(self, line: u8, frame: Frame) -> Moved
+        ensures { λ r. ⌜ r ≡ thermostatOf self line frame ⌝ }
+    {
+        if !inside(line) {
+            return self.refused(9);
+        }
+        let lines = self.lines;
+        let asked = self.asked;
+        let step = line_at(lines, line).thermostat(frame);
+        let next = step.line;
+        let said = step.said;
+        Moved {
+            gateway: Gateway {
+                lines: at_line(lines, line, next),
+                asked: asked,
+            },
+            told: plain(said),
+        }
+    }
+
+    pub fn boiler(self, line: u8, frame: Frame, room: &mut [u8]) -> Moved
+        ensures { λ r. ⌜ (r ≡ boilerOf self line frame (length (now (room .entry))) .result) × (now (room .exit) ≡ placed (boilerOf self line frame (length (now (room .entry))) .wrote) (now (room .entry))) ⌝ }
+    {
+        if room.len() < Gateway::ROOM {
+            return self.refused(15);
+        }
+        if !inside(line) {
+            return self.refused(9);
+        }
+        let lines = self.lines;
+        let asked = self.asked;
+        let step = line_at(lines, line).boiler(frame);
+        let next = step.line;
+        let said = step.said;
+        let settled = after_boiler(asked, line, said);
+        let told = tell(settled, plain(said), room);
+        Moved {
+            gateway: Gateway {
+                lines: at_line(lines, line, next),
+                asked: still(asked, settled),
+            },
+            told: told,
+        }
+    }
+
+    pub fn message(self, bytes: &[u8], room: &mut [u8]) -> Moved
+        ensures { λ r. ⌜ (r ≡ messageOf self (now (bytes .entry)) (length (now (room .entry))) .result) × (now (room .exit) ≡ placed (messageOf self (now (bytes .entry)) (length (now (room .entry))) .wrote) (now (room .entry))) ⌝ }
+    {
+        if room.len() < Gateway::ROOM {
+            return self.refused(15);
+        }
+        match modbus::request(bytes) {
+            Reading::Silent(n) => self.refused(n),
+            Reading::AtOnce(r) => self.replies(r, room),
+            Reading::Accepted(o) => self.asks(o, room),
+        }
+    }
+
+    fn refused(self, number: u8) -> Moved
+        ensures { λ r. ⌜ r ≡ refusal self number ⌝ }
+    {
+        Moved {
+            gateway: self,
+            told: Told::Refused(number),
+        }
+    }
+
+    // A refused tick: nothing goes out.
+    fn stopped(self, number: u8) -> Ticked
+        ensures { λ r. ⌜ r ≡ stoppedOf self number ⌝ }
+    {
+        Ticked {
+            gateway: self,
+            outs: Outs {
+                one: Out::Silent,
+                two: Out::Silent,
+                three: Out::Silent,
+                four: Out::Silent,
+            },
+            told: Told::Refused(number),
+        }
+    }
+
+    // A reply at once.
+    fn replies(self, r: Reply, room: &mut [u8]) -> Moved
+        requires { ⌜ 16 ≤ length (now room) ⌝ }
+        ensures { λ m. ⌜ (m ≡ replied self r .result) × (now (room .exit) ≡ placed (replied self r .wrote) (now (room .entry))) ⌝ }
+    {
+        let count = write(r, room);
+        Moved {
+            gateway: self,
+            told: Told::Reply(count),
+        }
+    }
+
+    // An order, unless another one is under way.
+    fn asks(self, o: Order, room: &mut [u8]) -> Moved
+        requires { ⌜ 16 ≤ length (now room) ⌝ }
+        ensures { λ m. ⌜ (m ≡ asksOf self o .result) × (now (room .exit) ≡ placed (asksOf self o .wrote) (now (room .entry))) ⌝ }
+    {
+        let asked = self.asked;
+        match asked {
+            Asked::Nothing => self.takes(o),
+            Asked::Waits(_) => self.replies(modbus::busy(o), room),
+        }
+    }
+
+    // The order goes to its unit's line.
+    fn takes(self, o: Order) -> Moved
+        ensures { λ m. ⌜ m ≡ takenOf self o ⌝ }
+    {
+        let lines = self.lines;
+        let line = o.line;
+        let step = line_at(lines, line).order(question_of(o));
+        let next = step.line;
+        Moved {
+            gateway: Gateway {
+                lines: at_line(lines, line, next),
+                asked: Asked::Waits(o),
+            },
+            told: Told::Accepted,
+        }
+    }
+}

@@ -1,0 +1,48 @@
+-- `otreplay::desk::ticks` is safe and ends. The measure is the ticks left.
+-- Assumes nothing.
+use borrow.Author.Needs.{needs}
+use mathlib.Core.Path.{_≡_}
+use lib.ListN.{length}
+use Rattle.otreplay.proofs.desk.ticks.Statement.{statement}
+use Rattle.otreplay.proofs.desk.ticks.Tie as tie
+
+abbrev Inv-loop : tie.InvT-loop
+Inv-loop n room₀ desk₀ left₀ room desk left = length room ≡ length room₀
+
+abbrev μ-loop : tie.MeasureT-loop
+μ-loop n room₀ desk₀ left₀ room desk left = left
+
+loop-holds : tie.Need-loop-holds Inv-loop μ-loop
+loop-holds c = search needs
+
+tick-requires : tie.Need-tick-requires Inv-loop μ-loop
+tick-requires c κs = search needs
+
+sub-left : tie.Need-sub-left Inv-loop μ-loop
+sub-left c = search needs
+
+loop-less : tie.Need-loop-less Inv-loop μ-loop
+loop-less c = search needs
+
+loop-again : tie.Need-loop-again Inv-loop μ-loop
+loop-again c = search needs
+
+same-length : tie.Need-same-length Inv-loop μ-loop
+same-length c = search needs
+
+returns : tie.Need-returns Inv-loop μ-loop
+returns c = search needs
+
+pub ticks-spec : {M : Type 1} → statement M
+ticks-spec =
+    tie.close
+    (tie.spec
+    Inv-loop
+    μ-loop
+    loop-holds
+    tick-requires
+    sub-left
+    loop-less
+    loop-again
+    same-length
+    returns)
