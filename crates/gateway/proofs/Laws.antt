@@ -6,16 +6,15 @@ use mathlib.Core.Bool.{true, false}
 use mathlib.Core.List.{List, []}
 use borrow.Author.Tests.{le-leb, lt-leb}
 use Rattle.word.specs.declared.Frame.{Frame}
-use Rattle.line.specs.Turns as turns
 use Rattle.modbus.specs.declared.Order.{Order}
 use Rattle.modbus.specs.declared.Reading.{Reading}
 use Rattle.modbus.specs.Outcomes.{busyOf}
 use Rattle.modbus.specs.Wire.{requestOf}
 use Rattle.gateway.specs.declared.Asked.the-variants.{Nothing, Waits}
 use Rattle.gateway.specs.declared.Gateway.{Gateway}
-use Rattle.gateway.specs.Four.{insideOf, lineOf, ticksOf}
+use Rattle.gateway.specs.Four.{insideOf, ticksOf}
 use Rattle.gateway.specs.Settle.{afterTick, afterBoiler}
-use Rattle.gateway.specs.Entries.{gives, refusal, stopped, tickedOf, tickOf, heldOf, thermostatOf, boilerStep, movedOf, boilerOf, takenOf, replied, asksOf, readOf, messageOf}
+use Rattle.gateway.specs.Entries.{gives, refusal, stopped, tickedOf, tickOf, thermostatStep, heldOf, thermostatOf, boilerStep, movedOf, boilerOf, takenOf, replied, asksOf, readOf, messageOf}
 
 module _ (g : Gateway) where
   pub tick-15 : (n : ℕ) → n < 16 → tickOf g n ≡ gives (stopped g 15) []
@@ -30,7 +29,7 @@ module _ (g : Gateway) where
   unfolding thermostatOf
   thermostat-9 l f e = rw e
 
-  pub thermostat-yes : (l : ℕ) (f : Frame) → insideOf l ≡ true → thermostatOf g l f ≡ heldOf g l (turns.thermostatOf (lineOf (g .lines) l) f)
+  pub thermostat-yes : (l : ℕ) (f : Frame) → insideOf l ≡ true → thermostatOf g l f ≡ heldOf g l (thermostatStep g l f)
   unfolding thermostatOf
   thermostat-yes l f e = rw e
 

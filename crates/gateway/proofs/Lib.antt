@@ -1,4 +1,5 @@
 -- Why the box keeps its promises.
+pub mod Resting
 pub mod Laws
 pub mod Speech
 pub mod Project

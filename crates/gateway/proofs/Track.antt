@@ -19,18 +19,16 @@ use Rattle.line.specs.History.{notes, Own}
 use Rattle.line.proofs.Clock.{last-or}
 use Rattle.line.proofs.Demand3.{demand3}
 use Rattle.modbus.specs.declared.Order.{Order}
-use Rattle.modbus.specs.declared.Outcome.the-variants.{NoAnswer}
 use Rattle.modbus.specs.declared.Reading.{Reading}
 use Rattle.modbus.specs.declared.Reading.the-variants as reading
 use Rattle.modbus.specs.declared.Reply.{Reply}
-use Rattle.modbus.specs.Outcomes.{answerOf}
 use Rattle.modbus.specs.Wire.{requestOf}
 use Rattle.gateway.specs.declared.Asked.{Asked}
 use Rattle.gateway.specs.declared.Asked.the-variants.{Nothing, Waits}
 use Rattle.gateway.specs.declared.Told.{Told}
 use Rattle.gateway.specs.declared.Told.the-variants as told
 use Rattle.gateway.specs.declared.settle.Settled.the-variants.{Open, Came}
-use Rattle.gateway.specs.Settle.{questionOf, outcomeOf, settledOf}
+use Rattle.gateway.specs.Settle.{questionOf, settledOf}
 use Rattle.gateway.specs.Inputs.{Input, tick, thermostat, boiler, message, Inputs, Four}
 use Rattle.gateway.specs.History.{next, boxAt, given}
 use Rattle.gateway.specs.Projection.{taken, orderOn, eventOn, eventsOn}
@@ -52,8 +50,8 @@ unfolding settledOf
 split o said.Quiet = goes-on refl (λ e. omega arith)
 split o (said.Sent Thermostat f) = goes-on refl (λ e. omega arith)
 split o (said.Sent Modbus f) = goes-on refl (λ e. omega arith)
-split o (said.Answer f n) = comes (answerOf o (outcomeOf f)) n refl refl
-split o (said.NoAnswer n) = comes (answerOf o NoAnswer) n refl refl
+split o (said.Answer f n) = comes _ _ refl refl
+split o (said.NoAnswer n) = comes _ _ refl refl
 split o (said.Passed f) = goes-on refl (λ e. omega arith)
 split o said.Dropped = goes-on refl (λ e. omega arith)
 split o said.Held = goes-on refl (λ e. omega arith)

@@ -2,6 +2,7 @@
 -- "Order: 15, 9, 5, 6, 7, 8; for Modbus messages 15 comes before 11." The lines judge 5 to 8, the crate modbus 11 to 14.
 -- Assumes nothing: these are definitions.
 use Prim.Native.Nat.{ℕ}
+use mathlib.Core.Path.{_≡_}
 use mathlib.Core.Bool.{Bool, cond}
 use mathlib.Core.List.{List, []}
 use lib.Dec.{leb}
@@ -15,7 +16,7 @@ use Rattle.modbus.specs.declared.Reply.{Reply}
 use Rattle.modbus.specs.declared.Reading.{Reading}
 use Rattle.modbus.specs.declared.Reading.the-variants.{Silent, AtOnce, Accepted}
 use Rattle.modbus.specs.Outcomes.{busyOf}
-use Rattle.modbus.specs.Wire.{requestOf, bytesOf}
+use Rattle.modbus.specs.Wire.{requestOf, bytesOf, placed}
 use Rattle.gateway.specs.declared.Asked.{Asked}
 use Rattle.gateway.specs.declared.Asked.the-variants.{Nothing, Waits}
 use Rattle.gateway.specs.declared.Gateway.{Gateway}
@@ -34,6 +35,10 @@ pub record Does (A : Type 0) : Type 0 where
 
 abbrev pub gives : {A : Type 0} → A → List ℕ → Does A
 gives r w = record { result = r; wrote = w }
+
+-- an entry's result is r, and its room goes from `before` to `after`, as d says
+abbrev pub As : {A : Type 0} → Does A → A → List ℕ → List ℕ → Type 0
+As d r before after = (r ≡ d .result) × (after ≡ placed (d .wrote) before)
 
 -- "15: lent room below 16 bytes (reply)": n is the room's length
 abbrev pub enough : ℕ → Bool

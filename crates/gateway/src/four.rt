@@ -5,7 +5,9 @@ use crate::Outs;
 use line::Line;
 use line::Said;
 use line::Step;
+use line::idle::idle;
 ghost use mathlib.Core.Path.{_≡_};
+ghost use Rattle.gateway.specs.Idle.{allIdle};
 ghost use Rattle.gateway.specs.Four.{insideOf, lineOf, putOf, ticksOf, saidOf, linesOf, outOf, outsOf};
 
 // What the four lines make of a tick.
@@ -58,6 +60,26 @@ pub(crate) fn at_line(mut lines: Lines, k: u8, line: Line) -> Lines
         return lines;
     }
     lines
+}
+
+// Whether none of the four has anything to do.
+pub(crate) fn all_idle(lines: Lines) -> bool
+    ensures { λ r. ⌜ r ≡ allIdle lines ⌝ }
+{
+    let one = lines.one;
+    let two = lines.two;
+    let three = lines.three;
+    let four = lines.four;
+    if !idle(one) {
+        return false;
+    }
+    if !idle(two) {
+        return false;
+    }
+    if !idle(three) {
+        return false;
+    }
+    idle(four)
 }
 
 pub(crate) fn tick_all(lines: Lines) -> Steps

@@ -2,6 +2,7 @@
 mod four;
 mod settle;
 
+use four::all_idle;
 use four::at_line;
 use four::inside;
 use four::line_at;
@@ -24,8 +25,9 @@ use word::Frame;
 ghost use mathlib.Core.Path.{_≡_};
 ghost use Prim.Native.Nat.{_≤_};
 ghost use lib.ListN.{length};
-ghost use Rattle.modbus.specs.Wire.{placed};
+ghost use Rattle.gateway.specs.Idle.{idleBox, rests as restsOf};
 ghost use Rattle.gateway.specs.Entries.{
+  As,
   freshBox,
   refusal,
   stopped as stoppedOf,
@@ -117,24 +119,23 @@ impl Gateway {
     }
 
     pub fn tick(self, room: &mut [u8]) -> Ticked
-        ensures { λ r. ⌜ (r ≡ tickOf self (length (now (room .entry))) .result) × (now (room .exit) ≡ placed (tickOf self (length (now (room .entry))) .wrote) (now (room .entry))) ⌝ }
+        ensures { λ r. ⌜ As (tickOf self (length (now (room .entry)))) r (now (room .entry)) (now (room .exit)) ⌝ }
     {
         if room.len() < Gateway::ROOM {
             return self.stopped(15);
         }
-        let lines = self.lines;
-        let asked = self.asked;
-        let steps = tick_all(lines);
-        let settled = after_tick(asked, steps);
-        let told = tell(settled, Told::Quiet, room);
-        Ticked {
-            gateway: Gateway {
-                lines: lines_of(steps),
-                asked: still(asked, settled),
-            },
-            outs: outs_of(steps),
-            told: told,
+        if self.idle() {
+            return self.rests();
         }
+        self.moves(room)
+    }
+
+    // Whether the box has nothing to do: its ticks change nothing, and a caller may pass them over.
+    pub fn idle(self) -> bool
+        ensures { λ r. ⌜ r ≡ idleBox self ⌝ }
+    {
+        let lines = self.lines;
+        all_idle(lines)
     }
 
     pub fn thermostat(self, line: u8, frame: Frame) -> Moved
@@ -158,7 +159,7 @@ impl Gateway {
     }
 
     pub fn boiler(self, line: u8, frame: Frame, room: &mut [u8]) -> Moved
-        ensures { λ r. ⌜ (r ≡ boilerOf self line frame (length (now (room .entry))) .result) × (now (room .exit) ≡ placed (boilerOf self line frame (length (now (room .entry))) .wrote) (now (room .entry))) ⌝ }
+        ensures { λ r. ⌜ As (boilerOf self line frame (length (now (room .entry)))) r (now (room .entry)) (now (room .exit)) ⌝ }
     {
         if room.len() < Gateway::ROOM {
             return self.refused(15);
@@ -183,7 +184,7 @@ impl Gateway {
     }
 
     pub fn message(self, bytes: &[u8], room: &mut [u8]) -> Moved
-        ensures { λ r. ⌜ (r ≡ messageOf self (now (bytes .entry)) (length (now (room .entry))) .result) × (now (room .exit) ≡ placed (messageOf self (now (bytes .entry)) (length (now (room .entry))) .wrote) (now (room .entry))) ⌝ }
+        ensures { λ r. ⌜ As (messageOf self (now (bytes .entry)) (length (now (room .entry)))) r (now (room .entry)) (now (room .exit)) ⌝ }
     {
         if room.len() < Gateway::ROOM {
             return self.refused(15);
@@ -192,6 +193,42 @@ impl Gateway {
             Reading::Silent(n) => self.refused(n),
             Reading::AtOnce(r) => self.replies(r, room),
             Reading::Accepted(o) => self.asks(o, room),
+        }
+    }
+
+    // A tick of a box that has nothing to do.
+    fn rests(self) -> Ticked
+        ensures { λ r. ⌜ r ≡ restsOf self ⌝ }
+    {
+        Ticked {
+            gateway: self,
+            outs: Outs {
+                one: Out::Silent,
+                two: Out::Silent,
+                three: Out::Silent,
+                four: Out::Silent,
+            },
+            told: Told::Quiet,
+        }
+    }
+
+    // A tick of any other.
+    fn moves(self, room: &mut [u8]) -> Ticked
+        requires { ⌜ 16 ≤ length (now room) ⌝ }
+        ensures { λ r. ⌜ As (tickOf self (length (now (room .entry)))) r (now (room .entry)) (now (room .exit)) ⌝ }
+    {
+        let lines = self.lines;
+        let asked = self.asked;
+        let steps = tick_all(lines);
+        let settled = after_tick(asked, steps);
+        let told = tell(settled, Told::Quiet, room);
+        Ticked {
+            gateway: Gateway {
+                lines: lines_of(steps),
+                asked: still(asked, settled),
+            },
+            outs: outs_of(steps),
+            told: told,
         }
     }
 
@@ -223,7 +260,7 @@ impl Gateway {
     // A reply at once.
     fn replies(self, r: Reply, room: &mut [u8]) -> Moved
         requires { ⌜ 16 ≤ length (now room) ⌝ }
-        ensures { λ m. ⌜ (m ≡ replied self r .result) × (now (room .exit) ≡ placed (replied self r .wrote) (now (room .entry))) ⌝ }
+        ensures { λ m. ⌜ As (replied self r) m (now (room .entry)) (now (room .exit)) ⌝ }
     {
         let count = write(r, room);
         Moved {
@@ -235,7 +272,7 @@ impl Gateway {
     // An order, unless another one is under way.
     fn asks(self, o: Order, room: &mut [u8]) -> Moved
         requires { ⌜ 16 ≤ length (now room) ⌝ }
-        ensures { λ m. ⌜ (m ≡ asksOf self o .result) × (now (room .exit) ≡ placed (asksOf self o .wrote) (now (room .entry))) ⌝ }
+        ensures { λ m. ⌜ As (asksOf self o) m (now (room .entry)) (now (room .exit)) ⌝ }
     {
         let asked = self.asked;
         match asked {

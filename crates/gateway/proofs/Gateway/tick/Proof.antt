@@ -1,9 +1,12 @@
--- `gateway::Gateway::tick` meets its contract.
+-- `gateway::Gateway::tick` meets its contract: a room that is too small, a box with nothing to do, or any other.
 -- Assumes nothing.
-use mathlib.Core.Path.{refl}
-use Rattle.gateway.specs.Entries.{tickOf}
-use borrow.Author.Tests.{le-leb, lt-leb}
+use mathlib.Core.Path.{refl, sym, ap, _∙_}
 use borrow.Author.Needs.{needs}
+use borrow.Author.Tests.{le-leb, lt-leb}
+use lib.ListN.{length}
+use Rattle.gateway.specs.declared.Ticked.{Ticked}
+use Rattle.gateway.specs.Entries.{Does, tickOf}
+use Rattle.gateway.proofs.Resting.{idle-box}
 use Rattle.gateway.proofs.Gateway.tick.Statement.{statement}
 use Rattle.gateway.proofs.Gateway.tick.Tie as tie
 
@@ -14,42 +17,26 @@ returns : tie.Need-returns
 unfolding tickOf
 returns c = rw (lt-leb _ _ (c .before .if1 .taken)) (c .stopped .ensures, refl)
 
-tick-all-requires : tie.Need-tick-all-requires
-tick-all-requires c κs = search needs
+idle-requires : tie.Need-idle-requires
+idle-requires c κs = search needs
 
-after-tick-requires : tie.Need-after-tick-requires
-after-tick-requires c κs = search needs
+rests-requires : tie.Need-rests-requires
+rests-requires c κs = search needs
 
-tell-requires : tie.Need-tell-requires
-tell-requires c κs = search needs
+returns-2 : tie.Need-returns-2
+returns-2 c =
+    let a = c .before .before .before .before .before .args in
+    let still = idle-box (a .self) (length (a .room .now)) (sym (c .before .before .idle .ensures) ∙ c .before .if2 .taken) (le-leb _ _ (c .before .before .before .if1 .left)) in
+    rw still (c .rests .ensures, refl)
 
-lines-of-requires : tie.Need-lines-of-requires
-lines-of-requires c κs = search needs
-
-still-requires : tie.Need-still-requires
-still-requires c κs = search needs
-
-outs-of-requires : tie.Need-outs-of-requires
-outs-of-requires c κs = search needs
+moves-requires : tie.Need-moves-requires
+moves-requires c κs = search needs
 
 same-length : tie.Need-same-length
 same-length c = search needs
 
-returns-2 : tie.Need-returns-2
-unfolding tickOf
-returns-2 c = rw (le-leb _ _ (c .before .before .before .before .before .before .before .before .before .before .if1 .left), ← (c .before .before .before .before .before .before .before .before .tick-all .ensures), ← (c .before .before .before .before .before .before .before .after-tick .ensures), ← (c .before .before .before .before .before .tell .ensures .0), c .before .before .lines-of .ensures, c .before .still .ensures, c .outs-of .ensures) (refl, c .before .before .before .before .before .tell .ensures .1)
+returns-3 : tie.Need-returns-3
+returns-3 c = c .before .before .moves .ensures
 
 pub tick-spec : {M : Type 1} → statement M
-tick-spec =
-    tie.close
-    (tie.spec
-    stopped-requires
-    returns
-    tick-all-requires
-    after-tick-requires
-    tell-requires
-    lines-of-requires
-    still-requires
-    outs-of-requires
-    same-length
-    returns-2)
+tick-spec = tie.close (tie.spec stopped-requires returns idle-requires rests-requires returns-2 moves-requires same-length returns-3)

@@ -15,6 +15,18 @@ abbrev μ-loop : tie.MeasureT-loop
 loop-holds : tie.Need-loop-holds Inv-loop μ-loop
 loop-holds c = search needs
 
+at-rest-requires : tie.Need-at-rest-requires Inv-loop μ-loop
+at-rest-requires c κs = search needs
+
+pass-requires : tie.Need-pass-requires Inv-loop μ-loop
+pass-requires c κs = search needs
+
+same-length : tie.Need-same-length Inv-loop μ-loop
+same-length c = search needs
+
+returns : tie.Need-returns Inv-loop μ-loop
+returns c = search needs
+
 tick-requires : tie.Need-tick-requires Inv-loop μ-loop
 tick-requires c κs = search needs
 
@@ -27,11 +39,11 @@ loop-less c = search needs
 loop-again : tie.Need-loop-again Inv-loop μ-loop
 loop-again c = search needs
 
-same-length : tie.Need-same-length Inv-loop μ-loop
-same-length c = search needs
+same-length-2 : tie.Need-same-length-2 Inv-loop μ-loop
+same-length-2 c = search needs
 
-returns : tie.Need-returns Inv-loop μ-loop
-returns c = search needs
+returns-2 : tie.Need-returns-2 Inv-loop μ-loop
+returns-2 c = search needs
 
 pub ticks-spec : {M : Type 1} → statement M
 ticks-spec =
@@ -40,9 +52,13 @@ ticks-spec =
     Inv-loop
     μ-loop
     loop-holds
+    at-rest-requires
+    pass-requires
+    same-length
+    returns
     tick-requires
     sub-left
     loop-less
     loop-again
-    same-length
-    returns)
+    same-length-2
+    returns-2)
