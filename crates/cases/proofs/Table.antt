@@ -1,6 +1,6 @@
 -- Each tried number, computed from the definitions.
 -- Assumes nothing.
-use mathlib.Core.Path.{_≡_, refl}
+use mathlib.Core.Path.{refl}
 use lib.Count.{onesIn}
 use lib.Ieee.{toBits, round}
 use Rattle.word.proofs.Worked.{built-is}

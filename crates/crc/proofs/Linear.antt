@@ -2,31 +2,22 @@
 -- Assumes nothing.
 use mathlib.Core.Path.{_≡_, refl, sym, ap, ap₂, _∙_}
 use Prim.Native.Nat.{ℕ, zero, suc, _+_, _*_, _/_, _%_, _^_, _<_}
-use native.Mathlib.Nat.{mod-lt, zero-lt-suc, mul-one}
+use native.Mathlib.Nat.{mod-lt, mul-one}
 use native.Mathlib.Omega.{arith}
 use lib.Arith.{bin-ind, digits-div, digits-mod}
 use lib.Pow.{split, pow-pos}
 use lib.Bits.{bitXor, differ, xor-step, xor-zero-r, xor-shifted, shifted-half, shifted-even, xor-comm}
+use Rattle.word.proofs.Parity.{two-pos, differ-lt}
 use Rattle.crc.specs.Crc.{crcBit, crcBits}
-
-two-pos : 0 < 2
-two-pos = zero-lt-suc 1
-
-differ-lt : (x y : ℕ) → x < 2 → y < 2 → differ x y < 2
-differ-lt zero y a b = b
-differ-lt (suc zero) zero a b = a
-differ-lt (suc zero) (suc zero) a b = two-pos
-differ-lt (suc (suc x)) y a b = absurd (let z : ⊥ = omega arith in z)
-differ-lt (suc zero) (suc (suc y)) a b = absurd (let z : ⊥ = omega arith in z)
 
 differ-assoc : (x y z : ℕ) → x < 2 → y < 2 → z < 2 → differ (differ x y) z ≡ differ x (differ y z)
 differ-assoc zero y z a b c = refl
 differ-assoc (suc zero) zero z a b c = refl
 differ-assoc (suc zero) (suc zero) zero a b c = refl
 differ-assoc (suc zero) (suc zero) (suc zero) a b c = refl
-differ-assoc (suc zero) (suc zero) (suc (suc z)) a b c = absurd (let z : ⊥ = omega arith in z)
-differ-assoc (suc zero) (suc (suc y)) z a b c = absurd (let z : ⊥ = omega arith in z)
-differ-assoc (suc (suc x)) y z a b c = absurd (let z : ⊥ = omega arith in z)
+differ-assoc (suc zero) (suc zero) (suc (suc z)) a b c = omega arith
+differ-assoc (suc zero) (suc (suc y)) z a b c = omega arith
+differ-assoc (suc (suc x)) y z a b c = omega arith
 
 -- the last digit, and what stands above it
 pub low : (a b : ℕ) → bitXor a b % 2 ≡ differ (a % 2) (b % 2)
@@ -56,8 +47,8 @@ feed : (x y : ℕ) → x < 2 → y < 2 → differ x y * 0xa001 ≡ bitXor (x * 0
 feed zero y a b = refl
 feed (suc zero) zero a b = refl
 feed (suc zero) (suc zero) a b = refl
-feed (suc (suc x)) y a b = absurd (let z : ⊥ = omega arith in z)
-feed (suc zero) (suc (suc y)) a b = absurd (let z : ⊥ = omega arith in z)
+feed (suc (suc x)) y a b = absurd (omega arith)
+feed (suc zero) (suc (suc y)) a b = absurd (omega arith)
 
 pub bit-linear : (a b : ℕ) → crcBit (bitXor a b) ≡ bitXor (crcBit a) (crcBit b)
 bit-linear a b =

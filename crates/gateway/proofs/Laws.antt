@@ -12,12 +12,13 @@ use Rattle.modbus.specs.Outcomes.{busyOf}
 use Rattle.modbus.specs.Wire.{requestOf}
 use Rattle.gateway.specs.declared.Asked.the-variants.{Nothing, Waits}
 use Rattle.gateway.specs.declared.Gateway.{Gateway}
+use Rattle.gateway.specs.declared.Told.the-variants.{Refused}
 use Rattle.gateway.specs.Four.{insideOf, ticksOf}
 use Rattle.gateway.specs.Settle.{afterTick, afterBoiler}
-use Rattle.gateway.specs.Entries.{gives, refusal, stopped, tickedOf, tickOf, thermostatStep, heldOf, thermostatOf, boilerStep, movedOf, boilerOf, takenOf, replied, asksOf, readOf, messageOf}
+use Rattle.gateway.specs.Entries.{gives, refusal, stays, tickedOf, tickOf, thermostatStep, heldOf, thermostatOf, boilerStep, movedOf, boilerOf, takenOf, replied, asksOf, readOf, messageOf}
 
 module _ (g : Gateway) where
-  pub tick-15 : (n : ℕ) → n < 16 → tickOf g n ≡ gives (stopped g 15) []
+  pub tick-15 : (n : ℕ) → n < 16 → tickOf g n ≡ gives (stays g (Refused 15)) []
   unfolding tickOf
   tick-15 n h = rw (lt-leb 16 n h)
 

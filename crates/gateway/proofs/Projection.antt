@@ -7,6 +7,7 @@ use mathlib.Core.List.{List}
 use lib.Dec.{eqb}
 use lib.ListN.{length}
 use borrow.Author.Tests.{eq-eqb}
+use Rattle.word.proofs.Clash.{clash}
 use Rattle.word.specs.declared.Frame.{Frame}
 use Rattle.line.specs.declared.Question.{Question}
 use Rattle.line.specs.declared.Said.{Said}
@@ -35,8 +36,8 @@ use Rattle.gateway.proofs.Laws.{thermostat-yes, boiler-yes}
 use Rattle.gateway.proofs.Speech.{Speech, none, quiet, sent, over, held, refused, answer, passed, dropped, unheard, taken, busy, speech}
 use Rattle.gateway.proofs.Project.{here, saidTo, note-is}
 use Rattle.gateway.proofs.Sight.{Seen, seen, thermostat-of, boiler-of, boiler-seen}
-use Rattle.gateway.proofs.Track.{clash, E, S, order-on, taken-on, on-line, held as held-order}
-use Rattle.gateway.proofs.Demand3.{sends-is, gives}
+use Rattle.gateway.proofs.Track.{E, S, order-on, taken-on, on-line, held as held-order}
+use Rattle.gateway.proofs.Lift.{sends-is, gives}
 
 -- ---- what is told of a frame that is no outcome
 
@@ -126,7 +127,7 @@ module _ (h : Inputs) {k : ℕ} (four : Four k) (n : ℕ) where
   spoken (busy {w}) sn ee es is =
       let a = accepted w ee .1 in
       let b : line.exception 6 ≡ line.accepted = sym (note-is h four n ∙ ap noteOf is) ∙ a in
-      clash (cc)
+      clash cc
 
   says-is : Says (S h k n) (length (given h n .wrote)) (given h n .told)
   says-is =
@@ -135,9 +136,9 @@ module _ (h : Inputs) {k : ℕ} (four : Four k) (n : ℕ) where
 
   -- a frame of line k is always answered
   frame-spoken : {e : Event} {s : Said} → Speech e s → isFrame e ≡ true → speaks (noteOf s) ≡ true
-  frame-spoken none fr = clash (cc)
-  frame-spoken quiet fr = clash (cc)
-  frame-spoken (sent t f) fr = clash (cc)
+  frame-spoken none fr = clash cc
+  frame-spoken quiet fr = clash cc
+  frame-spoken (sent t f) fr = clash cc
   frame-spoken (over w) fr = refl
   frame-spoken held fr = refl
   frame-spoken (refused m) fr = refl

@@ -7,6 +7,7 @@ use mathlib.Core.List.{List, []}
 use native.Mathlib.Omega.{arith}
 use lib.Dec.{leb}
 use borrow.Author.Tests.{leb-true, leb-false, lt-leb}
+use Rattle.word.proofs.Clash.{clash}
 use Rattle.word.specs.declared.Frame.{Frame}
 use Rattle.word.specs.Frame.{evenOf, typeOf, matchesOf}
 use Rattle.word.proofs.Parity.{flip-parity}
@@ -38,7 +39,6 @@ use Rattle.gateway.proofs.Laws.{tick-15, tick-yes, thermostat-9, thermo
 use Rattle.gateway.proofs.Project.{here}
 use Rattle.gateway.proofs.Units.{inside-four}
 use Rattle.gateway.proofs.Sight.{none-out}
-use Rattle.gateway.proofs.Track.{clash}
 use Rattle.gateway.proofs.Projection.{boiler-told}
 use Rattle.gateway.proofs.Cases.{Case, refuses, ticks, from-thermostat, from-boiler, replies, takes, case-of}
 
@@ -59,16 +59,16 @@ thermostat-same : (l : Line) (f : Frame) → Same l (turns.thermostatOf l f)
 unfolding turns.thermostatOf
 thermostat-same l f =
     by (evenOf (f .word)) l _ (turns.refusal l 5)
-    (by (leb (typeOf (f .word)) 2) l (turns.says _ said.Held) (turns.refusal l 6) (λ n e. clash (cc)) (refused-same l 6)) (refused-same l 5)
+    (by (leb (typeOf (f .word)) 2) l (turns.says _ said.Held) (turns.refusal l 6) (λ n e. clash cc) (refused-same l 6)) (refused-same l 5)
 
 ends-same : (l : Line) (o : Talker) (u : ℕ) (f : Frame) → Same l (turns.answeredOf l o u f)
 unfolding turns.answeredOf
-ends-same l Modbus u f n e = clash (cc)
+ends-same l Modbus u f n e = clash cc
 ends-same l Thermostat u f n e = go (turns.passesOf l u) e
   where
     go : (b : Bool) → cond b (said.Passed f) said.Dropped ≡ said.Refused n → turns.endedOf l Thermostat ≡ l
-    go true e = clash (cc)
-    go false e = clash (cc)
+    go true e = clash cc
+    go false e = clash cc
 
 turn-same : (l : Line) (f : Frame) (t : Turn) → Same l (turns.heardIn l f t)
 turn-same l f (Rest r) = refused-same l 7
@@ -93,15 +93,15 @@ put-same ls four = refl
 
 plain-refused : (s : Said) (n : ℕ) → plainOf s ≡ told.Refused n → s ≡ said.Refused n
 unfolding plainOf
-plain-refused said.Quiet n e = clash (cc)
-plain-refused (said.Sent t f) n e = clash (cc)
-plain-refused (said.Answer f m) n e = clash (cc)
-plain-refused (said.NoAnswer m) n e = clash (cc)
-plain-refused (said.Passed f) n e = clash (cc)
-plain-refused said.Dropped n e = clash (cc)
-plain-refused said.Held n e = clash (cc)
-plain-refused said.Taken n e = clash (cc)
-plain-refused said.Busy n e = clash (cc)
+plain-refused said.Quiet n e = clash cc
+plain-refused (said.Sent t f) n e = clash cc
+plain-refused (said.Answer f m) n e = clash cc
+plain-refused (said.NoAnswer m) n e = clash cc
+plain-refused (said.Passed f) n e = clash cc
+plain-refused said.Dropped n e = clash cc
+plain-refused said.Held n e = clash cc
+plain-refused said.Taken n e = clash cc
+plain-refused said.Busy n e = clash cc
 plain-refused (said.Refused m) n e = cc
 
 -- the box with line l as it was
@@ -113,15 +113,15 @@ with-line g {l} mine s e =
 kept : {g : Gateway} {x : Input} {g′ : Gateway} {t : Told} {w : List ℕ} → Case g x g′ t w → (n : ℕ) → t ≡ told.Refused n → (g′ ≡ g) × (w ≡ [])
 unfolding tellOf writesOf stillOf
 kept (refuses m) n e = (refl, refl)
-kept (ticks m s Open) n e = clash (cc)
-kept (ticks m s (Came r w)) n e = clash (cc)
+kept (ticks m s Open) n e = clash cc
+kept (ticks m s (Came r w)) n e = clash cc
 kept {g} (from-thermostat {l} f mine) n e =
     let s = turns.thermostatOf (lineOf (g .lines) l) f in (with-line g mine s (thermostat-same (lineOf (g .lines) l) f n (plain-refused (s .said) n e)), refl)
 kept {g} (from-boiler {l} f m mine Open) n e =
     let s = boilerStep g l f in (with-line g mine s (boiler-same (lineOf (g .lines) l) f n (plain-refused (s .said) n e)), refl)
-kept (from-boiler f m mine (Came r w)) n e = clash (cc)
-kept (replies r) n e = clash (cc)
-kept (takes o) n e = clash (cc)
+kept (from-boiler f m mine (Came r w)) n e = clash cc
+kept (replies r) n e = clash cc
+kept (takes o) n e = clash cc
 
 -- a tick that is told a refusal had too small a room, and sends nothing; nothing else ever does
 silent : (g : Gateway) (x : Input) (n : ℕ) → giftOf g x .told ≡ told.Refused n → (k : ℕ) → giftOf g x .out k ≡ Silent
@@ -129,8 +129,8 @@ unfolding tellOf
 silent g (tick m) n e k = go (leb 16 m) refl
   where
     unrefused : (s : Settled) → tellOf s told.Quiet ≡ told.Refused n → ⊥
-    unrefused Open e = clash (cc)
-    unrefused (Came r w) e = clash (cc)
+    unrefused Open e = clash cc
+    unrefused (Came r w) e = clash cc
 
     go : (b : Bool) → leb 16 m ≡ b → giftOf g (tick m) .out k ≡ Silent
     go true q = absurd (unrefused (afterTick (g .asked) (ticksOf (g .lines))) (sym (ap (λ (d : Does Ticked). d .result .told) (tick-yes g m (leb-true 16 m q))) ∙ e))

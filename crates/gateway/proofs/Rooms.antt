@@ -3,9 +3,9 @@
 use Prim.Native.Nat.{ℕ, _≤_}
 use mathlib.Core.Path.{_≡_}
 use mathlib.Core.List.{List}
-use native.Mathlib.Omega.{arith}
 use lib.ListN.{length}
 use borrow.Author.Tests.{le-leb}
+use Rattle.word.proofs.Clash.{clash}
 use Rattle.word.specs.Frame.{builtOf}
 use Rattle.word.specs.declared.Built.the-variants.{Word}
 use Rattle.line.specs.declared.Question.{Question}
@@ -27,7 +27,7 @@ pub counted : (r : Reply) (room : List ℕ) (n : ℕ) {w : Written} → 16 ≤ l
 counted r room n h e f = let is = written r room h in cc
 
 pub not-refused : (r : Reply) (room : List ℕ) (n : ℕ) {w : Written} → 16 ≤ length room → w ≡ writtenOf r room → w ≡ Refused n → ⊥
-not-refused r room n h e f = let is = written r room h in let z : _≡_ {A = ℕ} 0 1 = cc in omega arith
+not-refused r room n h e f = let is = written r room h in clash cc
 
 pub filled : (r : Reply) (room last : List ℕ) → 16 ≤ length room → last ≡ roomOf r room → last ≡ placed (bytesOf r) room
 unfolding roomOf

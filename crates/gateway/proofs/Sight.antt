@@ -6,6 +6,7 @@ use mathlib.Core.Bool.{Bool, true, false, cond, _&&_}
 use native.Mathlib.Omega.{arith}
 use lib.Dec.{eqb, leb}
 use borrow.Author.Tests.{eqb-true, eq-eqb, leb-true, leb-false, le-leb}
+use Rattle.word.proofs.Clash.{clash}
 use Rattle.word.specs.declared.Frame.{Frame}
 use Rattle.line.specs.declared.Question.{Question}
 use Rattle.line.specs.declared.Said.{Said}
@@ -32,7 +33,6 @@ use Rattle.gateway.specs.Projection.{taken as accepts, orderOn, eventOn,
 use Rattle.gateway.proofs.Laws.{tick-15, tick-yes}
 use Rattle.gateway.proofs.Speech.{Speech, none, quiet, sent, over, held, refused, answer, passed, dropped, unheard, taken, busy, speech}
 use Rattle.gateway.proofs.Project.{nth-of, eventTo, saidTo}
-use Rattle.gateway.proofs.Track.{clash}
 
 -- ---- which input an event of line k is
 
@@ -98,17 +98,17 @@ pub record Ticking (i : Input) : Type 0 where
 
 pub tick-of : {k : ℕ} {i : Input} {e : Event} → Seen k i e → e ≡ line.tick → Ticking i
 tick-of (ticks n h) q = record { room = n; is = refl; enough = h }
-tick-of (room-unit f) q = clash (cc)
-tick-of (boils f n h) q = clash (cc)
-tick-of (orders w z) q = clash (cc)
-tick-of (passes z) q = clash (cc)
+tick-of (room-unit f) q = clash cc
+tick-of (boils f n h) q = clash cc
+tick-of (orders w z) q = clash cc
+tick-of (passes z) q = clash cc
 
 pub thermostat-of : {k : ℕ} {i : Input} {e : Event} → Seen k i e → (f : Frame) → e ≡ line.thermostat f → i ≡ thermostat k f
-thermostat-of (ticks n h) f q = clash (cc)
+thermostat-of (ticks n h) f q = clash cc
 thermostat-of {k} (room-unit x) f q = let is : x ≡ f = cc in ap (thermostat k) is
-thermostat-of (boils x n h) f q = clash (cc)
-thermostat-of (orders w z) f q = clash (cc)
-thermostat-of (passes z) f q = clash (cc)
+thermostat-of (boils x n h) f q = clash cc
+thermostat-of (orders w z) f q = clash cc
+thermostat-of (passes z) f q = clash cc
 
 pub record Boiling (k : ℕ) (b : Frame) (i : Input) : Type 0 where
   pub room : ℕ
@@ -116,11 +116,11 @@ pub record Boiling (k : ℕ) (b : Frame) (i : Input) : Type 0 where
   pub enough : 16 ≤ room
 
 pub boiler-of : {k : ℕ} {i : Input} {e : Event} → Seen k i e → (b : Frame) → e ≡ line.boiler b → Boiling k b i
-boiler-of (ticks n h) b q = clash (cc)
-boiler-of (room-unit f) b q = clash (cc)
+boiler-of (ticks n h) b q = clash cc
+boiler-of (room-unit f) b q = clash cc
 boiler-of {k} (boils f n h) b q = let is : f ≡ b = cc in record { room = n; is = ap (λ (x : Frame). boiler k x n) is; enough = h }
-boiler-of (orders w z) b q = clash (cc)
-boiler-of (passes z) b q = clash (cc)
+boiler-of (orders w z) b q = clash cc
+boiler-of (passes z) b q = clash cc
 
 pub boiler-seen : (k : ℕ) (b : Frame) (n : ℕ) (t : Told) → 16 ≤ n → eventOn k (boiler k b n) t ≡ line.boiler b
 boiler-seen k b n t h =
@@ -174,12 +174,12 @@ out-note (said.Refused n) = refl
 
 pub sent-in : (s : Note) (t : Talker) (q : Frame) → outIn s ≡ Sent t q → s ≡ line.sent t q
 sent-in (line.sent x f) t q e = cc
-sent-in line.nothing t q e = clash (cc)
-sent-in line.held t q e = clash (cc)
-sent-in (line.passed f) t q e = clash (cc)
-sent-in line.dropped t q e = clash (cc)
-sent-in line.accepted t q e = clash (cc)
-sent-in (line.exception n) t q e = clash (cc)
-sent-in (line.answer f n) t q e = clash (cc)
-sent-in (line.no-answer n) t q e = clash (cc)
-sent-in (line.refused n) t q e = clash (cc)
+sent-in line.nothing t q e = clash cc
+sent-in line.held t q e = clash cc
+sent-in (line.passed f) t q e = clash cc
+sent-in line.dropped t q e = clash cc
+sent-in line.accepted t q e = clash cc
+sent-in (line.exception n) t q e = clash cc
+sent-in (line.answer f n) t q e = clash cc
+sent-in (line.no-answer n) t q e = clash cc
+sent-in (line.refused n) t q e = clash cc

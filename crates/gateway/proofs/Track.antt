@@ -7,6 +7,7 @@ use mathlib.Core.Bool.{Bool, true, false, cond, _&&_}
 use native.Mathlib.Omega.{arith}
 use lib.Dec.{eqb, leb}
 use borrow.Author.Tests.{eqb-true, eq-eqb}
+use Rattle.word.proofs.Clash.{clash}
 use Rattle.word.proofs.Match.{both}
 use Rattle.line.specs.declared.Question.{Question}
 use Rattle.line.specs.declared.Said.{Said}
@@ -34,10 +35,8 @@ use Rattle.gateway.specs.History.{next, boxAt, given}
 use Rattle.gateway.specs.Projection.{taken, orderOn, eventOn, eventsOn}
 use Rattle.gateway.specs.Demand3.{Asks, Accepted}
 use Rattle.gateway.proofs.Project.{saidTo, note-is}
-use Rattle.gateway.proofs.Order.{concerns, Effect, begins, stays, finishes, unit-of, named-at, effect-at}
-
-pub clash : {A : Type 0} → _≡_ {A = ℕ} 0 1 → A
-clash z = absurd (omega arith)
+use Rattle.gateway.proofs.Effect.{concerns, Effect, begins, stays, finishes}
+use Rattle.gateway.proofs.Order.{unit-of, named-at, effect-at}
 
 -- ---- what is settled is what the line's note is about
 
@@ -63,7 +62,7 @@ pub came-ends : (o : Order) (s : Said) (r : Reply) (n : ℕ) → settledOf o s �
 came-ends o s r n e = go (split o s)
   where
     go : Split o s → about (noteOf s) ≡ ends
-    go (goes-on op off) = clash (cc)
+    go (goes-on op off) = clash cc
     go (comes r′ n′ op on) = on
 
 module _ (h : Inputs) where
@@ -128,13 +127,13 @@ module _ (h : Inputs) where
 
   taken-told : (t : Told) → taken t ≡ true → t ≡ told.Accepted
   taken-told told.Accepted e = refl
-  taken-told told.Quiet e = clash (cc)
-  taken-told told.Held e = clash (cc)
-  taken-told (told.Passed f) e = clash (cc)
-  taken-told told.Dropped e = clash (cc)
-  taken-told (told.Reply c) e = clash (cc)
-  taken-told (told.Outcome c w) e = clash (cc)
-  taken-told (told.Refused n) e = clash (cc)
+  taken-told told.Quiet e = clash cc
+  taken-told told.Held e = clash cc
+  taken-told (told.Passed f) e = clash cc
+  taken-told told.Dropped e = clash cc
+  taken-told (told.Reply c) e = clash cc
+  taken-told (told.Outcome c w) e = clash cc
+  taken-told (told.Refused n) e = clash cc
 
   -- the message that is told so asks that order
   pub began : (i : ℕ) → given h i .told ≡ told.Accepted → (o : Order) × Asks (h i) o × (under i ≡ Nothing) × (under (suc i) ≡ Waits o)
@@ -163,24 +162,24 @@ module _ (h : Inputs) where
       go (tick n) is e = absurd (not-tick (leb 16 n) e)
         where
           not-tick : (b : Bool) → cond b line.tick line.pass ≡ line.order w → ⊥
-          not-tick true e = clash (cc)
-          not-tick false e = clash (cc)
+          not-tick true e = clash cc
+          not-tick false e = clash cc
       go (thermostat l f) is e = absurd (not-frame (eqb l k) e)
         where
           not-frame : (b : Bool) → cond b (line.thermostat f) line.pass ≡ line.order w → ⊥
-          not-frame true e = clash (cc)
-          not-frame false e = clash (cc)
+          not-frame true e = clash cc
+          not-frame false e = clash cc
       go (boiler l f n) is e = absurd (not-frame (leb 16 n) (eqb l k) e)
         where
           not-frame : (a b : Bool) → cond a (cond b (line.boiler f) line.pass) line.pass ≡ line.order w → ⊥
-          not-frame true true e = clash (cc)
-          not-frame true false e = clash (cc)
-          not-frame false b e = clash (cc)
+          not-frame true true e = clash cc
+          not-frame true false e = clash cc
+          not-frame false b e = clash cc
       go (message b n) is e = read (requestOf b) refl e
         where
           read : (r : Reading) → requestOf b ≡ r → orderOn k r (given h i .told) ≡ line.order w → Begun k i w
-          read (reading.Silent x) q e = clash (cc)
-          read (reading.AtOnce x) q e = clash (cc)
+          read (reading.Silent x) q e = clash cc
+          read (reading.AtOnce x) q e = clash cc
           read (reading.Accepted o) q e = on (taken (given h i .told) && eqb (o .line) k) refl e
             where
               on : (x : Bool) → (taken (given h i .told) && eqb (o .line) k) ≡ x → cond x (line.order (questionOf o)) line.pass ≡ line.order w → Begun k i w
@@ -188,7 +187,13 @@ module _ (h : Inputs) where
                   let parts = both (taken (given h i .told)) (eqb (o .line) k) p in
                   let t = taken-told (given h i .told) (parts .0) in
                   let a = began i t in
-                  let mine : Asks (h i) o = record { bytes = b; room = room-of (a .1); came = is ∙ ap (message b) (room-is (a .1)); enough = a .1 .enough; reads = q } in
+                  let mine : Asks (h i) o = record {
+                    bytes = b;
+                    room = room-of (a .1);
+                    came = is ∙ ap (message b) (room-is (a .1));
+                    enough = a .1 .enough;
+                    reads = q;
+                  } in
                   let same : a .0 ≡ o = one-order o (a .0) mine (a .1) in
                   record {
                     o = o;
@@ -204,7 +209,7 @@ module _ (h : Inputs) where
 
                   room-is : {p : Order} (a : Asks (h i) p) → n ≡ a .room
                   room-is a = let c : message b n ≡ message (a .bytes) (a .room) = sym is ∙ a .came in cc
-              on false p e = clash (cc)
+              on false p e = clash cc
 
   -- demand 3 for line k, on its own history
   pub on-line : (k : ℕ) → promise.Demand3 1950 Own (E k) (S k)
@@ -245,4 +250,4 @@ module _ (h : Inputs) where
           ∙ ap (λ (b : Bool). cond b (line.order (questionOf o)) line.pass) (eq-eqb (o .line) (o .line) refl)
 
       busy : (j : ℕ) × (v : Question) × (j < i) × promise.Accepted (E (o .line)) (S (o .line)) j v × Never (S (o .line)) ends j i → ⊥
-      busy d = let w = held (o .line) (d .0) (d .1) i (d .3) (d .2) (d .4) .waits in let e : Nothing ≡ Waits (held (o .line) (d .0) (d .1) i (d .3) (d .2) (d .4) .begun .o) = sym (a .2) ∙ w in clash (cc)
+      busy d = let w = held (o .line) (d .0) (d .1) i (d .3) (d .2) (d .4) .waits in let e : Nothing ≡ Waits (held (o .line) (d .0) (d .1) i (d .3) (d .2) (d .4) .begun .o) = sym (a .2) ∙ w in clash cc

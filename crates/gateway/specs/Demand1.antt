@@ -1,13 +1,12 @@
 -- Demand 1 at the entries, for every box: what is refused changes nothing, the refusals come in 01's order, and every frame of even parity with one
 -- of its bits flipped is refused.
 -- Assumes nothing: these are definitions.
-use Prim.Native.Nat.{ℕ, _^_, _≤_, _<_}
+use Prim.Native.Nat.{ℕ, _≤_, _<_}
 use mathlib.Core.Path.{_≡_}
 use mathlib.Core.Bool.{true, false}
 use mathlib.Core.List.{List, []}
-use lib.Bits.{bitXor}
 use Rattle.word.specs.declared.Frame.{Frame}
-use Rattle.word.specs.Frame.{evenOf, typeOf}
+use Rattle.word.specs.Frame.{evenOf, flip, typeOf}
 use Rattle.gateway.specs.declared.Gateway.{Gateway}
 use Rattle.gateway.specs.declared.Out.the-variants.{Silent}
 use Rattle.gateway.specs.declared.Told.the-variants.{Refused}
@@ -27,7 +26,7 @@ pub record Refuses (g : Gateway) (x : Input) (n : ℕ) : Type 0 where
 
 -- the frame with bit k flipped
 abbrev pub flipped : ℕ → Frame → Frame
-flipped k f = record { word = bitXor (f .word) (2 ^ k) }
+flipped k f = record { word = flip k (f .word) }
 
 pub record Demand1 (g : Gateway) : Type 0 where
   -- every numbered answer leaves everything as it was

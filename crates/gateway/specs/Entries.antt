@@ -20,6 +20,7 @@ use Rattle.modbus.specs.Wire.{requestOf, bytesOf, placed}
 use Rattle.gateway.specs.declared.Asked.{Asked}
 use Rattle.gateway.specs.declared.Asked.the-variants.{Nothing, Waits}
 use Rattle.gateway.specs.declared.Gateway.{Gateway}
+use Rattle.gateway.specs.declared.Told.{Told}
 use Rattle.gateway.specs.declared.Told.the-variants as told
 use Rattle.gateway.specs.declared.Ticked.{Ticked}
 use Rattle.gateway.specs.declared.Moved.{Moved}
@@ -52,8 +53,9 @@ freshBox = record { lines = record { one = freshLine; two = freshLine; three = f
 abbrev pub refusal : Gateway → ℕ → Moved
 refusal g n = record { gateway = g; told = told.Refused n }
 
-abbrev pub stopped : Gateway → ℕ → Ticked
-stopped g n = record { gateway = g; outs = noOuts; told = told.Refused n }
+-- a tick in which nothing changes and nothing goes out
+abbrev pub stays : Gateway → Told → Ticked
+stays g t = record { gateway = g; outs = noOuts; told = t }
 
 -- ---- a tick: the steps of the four lines, and what has become of the order under way
 
@@ -68,14 +70,17 @@ unfoldable pub tickOf : Gateway → ℕ → Does Ticked
 tickOf g n =
     cond (enough n)
     (tickedOf g (ticksOf (g .lines)) (afterTick (g .asked) (ticksOf (g .lines))))
-    (gives (stopped g 15) [])
+    (gives (stays g (told.Refused 15)) [])
 
 -- ---- a frame for line l, which makes the step s
 
 abbrev pub movedOf : Gateway → ℕ → Step → Settled → Does Moved
 movedOf g l s e =
     gives
-    (record { gateway = record { lines = putOf (g .lines) l (s .line); asked = stillOf (g .asked) e }; told = tellOf e (plainOf (s .said)) })
+    (record {
+      gateway = record { lines = putOf (g .lines) l (s .line); asked = stillOf (g .asked) e };
+      told = tellOf e (plainOf (s .said));
+    })
     (writesOf e)
 
 -- a thermostat frame needs no room, and is no order's outcome

@@ -5,16 +5,9 @@ use mathlib.Core.Bool.{Bool, _&&_}
 use Rattle.line.specs.Idle.{idleOf}
 use Rattle.gateway.specs.declared.Gateway.{Gateway}
 use Rattle.gateway.specs.declared.Lines.{Lines}
-use Rattle.gateway.specs.declared.Ticked.{Ticked}
-use Rattle.gateway.specs.declared.Told.the-variants.{Quiet}
-use Rattle.gateway.specs.Four.{noOuts}
 
 unfoldable pub allIdle : Lines → Bool
 allIdle ls = idleOf (ls .one) && (idleOf (ls .two) && (idleOf (ls .three) && idleOf (ls .four)))
 
 abbrev pub idleBox : Gateway → Bool
 idleBox g = allIdle (g .lines)
-
--- the box stays as it is
-abbrev pub rests : Gateway → Ticked
-rests g = record { gateway = g; outs = noOuts; told = Quiet }

@@ -1,7 +1,12 @@
 // The whole box: four lines, the one order under way, and the entries with their reply rooms.
+mod answers;
 mod four;
 mod settle;
 
+use answers::asks;
+use answers::refused;
+use answers::replies;
+use answers::stays;
 use four::all_idle;
 use four::at_line;
 use four::inside;
@@ -13,32 +18,17 @@ use line::Line;
 use line::Talker;
 use modbus::Order;
 use modbus::Reading;
-use modbus::Reply;
 use settle::after_boiler;
 use settle::after_tick;
 use settle::plain;
-use settle::question_of;
 use settle::still;
 use settle::tell;
-use settle::write;
 use word::Frame;
 ghost use mathlib.Core.Path.{_≡_};
 ghost use Prim.Native.Nat.{_≤_};
 ghost use lib.ListN.{length};
-ghost use Rattle.gateway.specs.Idle.{idleBox, rests as restsOf};
-ghost use Rattle.gateway.specs.Entries.{
-  As,
-  freshBox,
-  refusal,
-  stopped as stoppedOf,
-  tickOf,
-  thermostatOf,
-  boilerOf,
-  messageOf,
-  takenOf,
-  asksOf,
-  replied,
-};
+ghost use Rattle.gateway.specs.Idle.{idleBox};
+ghost use Rattle.gateway.specs.Entries.{As, freshBox, tickOf, thermostatOf, boilerOf, messageOf};
 
 // The four lines.
 pub struct Lines {
@@ -122,10 +112,10 @@ impl Gateway {
         ensures { λ r. ⌜ As (tickOf self (length (now (room .entry)))) r (now (room .entry)) (now (room .exit)) ⌝ }
     {
         if room.len() < Gateway::ROOM {
-            return self.stopped(15);
+            return stays(self, Told::Refused(15));
         }
         if self.idle() {
-            return self.rests();
+            return stays(self, Told::Quiet);
         }
         self.moves(room)
     }
@@ -142,7 +132,7 @@ impl Gateway {
         ensures { λ r. ⌜ r ≡ thermostatOf self line frame ⌝ }
     {
         if !inside(line) {
-            return self.refused(9);
+            return refused(self, 9);
         }
         let lines = self.lines;
         let asked = self.asked;
@@ -162,10 +152,10 @@ impl Gateway {
         ensures { λ r. ⌜ As (boilerOf self line frame (length (now (room .entry)))) r (now (room .entry)) (now (room .exit)) ⌝ }
     {
         if room.len() < Gateway::ROOM {
-            return self.refused(15);
+            return refused(self, 15);
         }
         if !inside(line) {
-            return self.refused(9);
+            return refused(self, 9);
         }
         let lines = self.lines;
         let asked = self.asked;
@@ -187,32 +177,16 @@ impl Gateway {
         ensures { λ r. ⌜ As (messageOf self (now (bytes .entry)) (length (now (room .entry)))) r (now (room .entry)) (now (room .exit)) ⌝ }
     {
         if room.len() < Gateway::ROOM {
-            return self.refused(15);
+            return refused(self, 15);
         }
         match modbus::request(bytes) {
-            Reading::Silent(n) => self.refused(n),
-            Reading::AtOnce(r) => self.replies(r, room),
-            Reading::Accepted(o) => self.asks(o, room),
+            Reading::Silent(n) => refused(self, n),
+            Reading::AtOnce(r) => replies(self, r, room),
+            Reading::Accepted(o) => asks(self, o, room),
         }
     }
 
-    // A tick of a box that has nothing to do.
-    fn rests(self) -> Ticked
-        ensures { λ r. ⌜ r ≡ restsOf self ⌝ }
-    {
-        Ticked {
-            gateway: self,
-            outs: Outs {
-                one: Out::Silent,
-                two: Out::Silent,
-                three: Out::Silent,
-                four: Out::Silent,
-            },
-            told: Told::Quiet,
-        }
-    }
-
-    // A tick of any other.
+    // A tick of a box that has something to do.
     fn moves(self, room: &mut [u8]) -> Ticked
         requires { ⌜ 16 ≤ length (now room) ⌝ }
         ensures { λ r. ⌜ As (tickOf self (length (now (room .entry)))) r (now (room .entry)) (now (room .exit)) ⌝ }
@@ -229,72 +203,6 @@ impl Gateway {
             },
             outs: outs_of(steps),
             told: told,
-        }
-    }
-
-    fn refused(self, number: u8) -> Moved
-        ensures { λ r. ⌜ r ≡ refusal self number ⌝ }
-    {
-        Moved {
-            gateway: self,
-            told: Told::Refused(number),
-        }
-    }
-
-    // A refused tick: nothing goes out.
-    fn stopped(self, number: u8) -> Ticked
-        ensures { λ r. ⌜ r ≡ stoppedOf self number ⌝ }
-    {
-        Ticked {
-            gateway: self,
-            outs: Outs {
-                one: Out::Silent,
-                two: Out::Silent,
-                three: Out::Silent,
-                four: Out::Silent,
-            },
-            told: Told::Refused(number),
-        }
-    }
-
-    // A reply at once.
-    fn replies(self, r: Reply, room: &mut [u8]) -> Moved
-        requires { ⌜ 16 ≤ length (now room) ⌝ }
-        ensures { λ m. ⌜ As (replied self r) m (now (room .entry)) (now (room .exit)) ⌝ }
-    {
-        let count = write(r, room);
-        Moved {
-            gateway: self,
-            told: Told::Reply(count),
-        }
-    }
-
-    // An order, unless another one is under way.
-    fn asks(self, o: Order, room: &mut [u8]) -> Moved
-        requires { ⌜ 16 ≤ length (now room) ⌝ }
-        ensures { λ m. ⌜ As (asksOf self o) m (now (room .entry)) (now (room .exit)) ⌝ }
-    {
-        let asked = self.asked;
-        match asked {
-            Asked::Nothing => self.takes(o),
-            Asked::Waits(_) => self.replies(modbus::busy(o), room),
-        }
-    }
-
-    // The order goes to its unit's line.
-    fn takes(self, o: Order) -> Moved
-        ensures { λ m. ⌜ m ≡ takenOf self o ⌝ }
-    {
-        let lines = self.lines;
-        let line = o.line;
-        let step = line_at(lines, line).order(question_of(o));
-        let next = step.line;
-        Moved {
-            gateway: Gateway {
-                lines: at_line(lines, line, next),
-                asked: Asked::Waits(o),
-            },
-            told: Told::Accepted,
         }
     }
 }

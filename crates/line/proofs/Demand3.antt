@@ -38,7 +38,12 @@ order-said h k w e = subst (λ (x : Event). Either (doOf (lineAt h k) x .said)) 
 
     go : (b : Bool) →
         Either
-        (cond b (says (lineAt h k) Busy) (says (record { turn = lineAt h k .turn; held = lineAt h k .held; order = Waits w 0; last = lineAt h k .last }) Taken) .said)
+        (cond b (says (lineAt h k) Busy) (says (record {
+          turn = lineAt h k .turn;
+          held = lineAt h k .held;
+          order = Waits w 0;
+          last = lineAt h k .last;
+        }) Taken) .said)
     go true = inr refl
     go false = inl refl
 

@@ -4,8 +4,8 @@ use Prim.Native.Nat.{ℕ}
 use mathlib.Core.Path.{_≡_, ap, _∙_}
 use mathlib.Core.Bool.{true, false, not}
 use Rattle.word.specs.declared.Frame.{Frame}
-use Rattle.word.specs.Frame.{evenOf}
-use Rattle.word.proofs.Parity.{flip, flip-parity}
+use Rattle.word.specs.Frame.{evenOf, flip}
+use Rattle.word.proofs.Parity.{flip-parity}
 use Rattle.line.specs.declared.Line.{Line}
 use Rattle.line.specs.Turns.{refusal, thermostatOf, boilerOf}
 

@@ -6,6 +6,7 @@ use mathlib.Core.Bool.{Bool, true, false, cond, _&&_}
 use native.Mathlib.Omega.{arith}
 use lib.Dec.{ltb, leb}
 use borrow.Author.Tests.{ltb-true, ltb-false, leb-true, leb-false}
+use Rattle.word.proofs.Clash.{clash}
 use Rattle.word.specs.declared.Frame.{Frame}
 use Rattle.word.specs.Frame.{evenOf, typeOf, matchesOf}
 use Rattle.word.proofs.Match.{match-even, match-type}
@@ -24,7 +25,7 @@ use Rattle.line.specs.declared.Order.the-variants.{Nothing, Waits}
 use Rattle.line.specs.Turns.{earliest, latest, silence, full-rest, older, heldOlder, orderOlder, turnOlder, lineOlder, wordOf, waitingOf, sendsOf, after, startOf, restsOf, endedOf, silenceOf, talksOf, tickOf, refusal, must, thermostatOf, passesOf, answeredOf, heardOf, boilerOf, underWay, orderOf, says, turned}
 use Rattle.line.specs.Events.{Event, pass, tick, thermostat, boiler, order, beat, Note, nothing, refused, noteOf}
 use Rattle.line.specs.History.{doOf, Own}
-use Rattle.line.proofs.Moves.{Life, none, waits, talks, Deaf, Unasked, Other, Move, idle, takes, wait, send, talk, over, hear}
+use Rattle.line.proofs.Moves.{Life, none, waits, talks, Deaf, Unasked, unasked, deaf, deaf-by, Other, Move, idle, takes, wait, send, talk, over, hear}
 
 -- how many ticks a waiting order's outcome is away at most
 abbrev pub left : Turn → Talker → ℕ
@@ -46,60 +47,22 @@ life l = lifeOf (l .turn) (l .order) (l .last)
 abbrev pub Moves : Event → Life → Step → Type 0
 Moves e x S = Move 1950 (Own 0) e (noteOf (S .said)) x (life (S .line))
 
--- an event of another kind is no order and no answer
-pub tick-unasked : Unasked tick
-unfolding Unasked
-tick-unasked w q = let z : _≡_ {A = ℕ} 0 1 = cc in omega arith
-
-pass-unasked : Unasked pass
-unfolding Unasked
-pass-unasked w q = let z : _≡_ {A = ℕ} 0 1 = cc in omega arith
-
-thermostat-unasked : (f : Frame) → Unasked (thermostat f)
-unfolding Unasked
-thermostat-unasked f w q = let z : _≡_ {A = ℕ} 0 1 = cc in omega arith
-
-boiler-unasked : (f : Frame) → Unasked (boiler f)
-unfolding Unasked
-boiler-unasked f w q = let z : _≡_ {A = ℕ} 0 1 = cc in omega arith
-
-pub deaf-tick : (q : Frame) (a : ℕ) → Deaf tick q a
-unfolding Deaf
-deaf-tick q a b e ma lo hi = let z : _≡_ {A = ℕ} 0 1 = cc in omega arith
-
-pub deaf-pass : (q : Frame) (a : ℕ) → Deaf pass q a
-unfolding Deaf
-deaf-pass q a b e ma lo hi = let z : _≡_ {A = ℕ} 0 1 = cc in omega arith
-
-pub deaf-thermostat : (f q : Frame) (a : ℕ) → Deaf (thermostat f) q a
-unfolding Deaf
-deaf-thermostat f q a b e ma lo hi = let z : _≡_ {A = ℕ} 0 1 = cc in omega arith
-
-pub deaf-order : (v : Question) (q : Frame) (a : ℕ) → Deaf (order v) q a
-unfolding Deaf
-deaf-order v q a b e ma lo hi = let z : _≡_ {A = ℕ} 0 1 = cc in omega arith
-
--- a frame answers nothing if it doesn't match, or comes at another age
-pub deaf-by : (f q : Frame) (a : ℕ) → (matchesOf (q .word) (f .word) ≡ true → 84 ≤ a → a ≤ 874 → ⊥) → Deaf (boiler f) q a
-unfolding Deaf
-deaf-by f q a off b e ma lo hi = let is : f ≡ b = cc in off (rw is ma) lo hi
-
 -- a tick of rest
 tick-rest : (r : ℕ) (h : Slot) (o : Order) (l : Talker) (t : Bool) → ltb (older r) full-rest ≡ t →
     let L : Line = record { turn = Rest r; held = heldOlder h; order = orderOlder o; last = l } in
     Moves tick (lifeOf (Rest r) o l) (cond t (says (turned L (Rest (older r))) Quiet) (startOf (turned L (Rest full-rest))))
 unfolding heldOlder orderOlder startOf waitingOf sendsOf after wordOf
-tick-rest r h Nothing l true e = idle (omega arith) tick-unasked
+tick-rest r h Nothing l true e = idle (omega arith) (unasked tick refl)
 tick-rest r h (Waits w u) Thermostat true e =
     let lt = ltb-true (older r) full-rest e in
     wait w u (left (Rest r) Thermostat) (older u) (left (Rest (older r)) Thermostat) (omega arith) (λ s. omega arith) (omega arith) (omega arith)
 tick-rest r h (Waits w u) Modbus true e =
     let lt = ltb-true (older r) full-rest e in
     wait w u (left (Rest r) Modbus) (older u) (left (Rest (older r)) Modbus) (omega arith) (λ s. omega arith) (omega arith) (omega arith)
-tick-rest r Empty Nothing Thermostat false e = idle (omega arith) tick-unasked
-tick-rest r Empty Nothing Modbus false e = idle (omega arith) tick-unasked
-tick-rest r (Full f t) Nothing Thermostat false e = idle (omega arith) tick-unasked
-tick-rest r (Full f t) Nothing Modbus false e = idle (omega arith) tick-unasked
+tick-rest r Empty Nothing Thermostat false e = idle (omega arith) (unasked tick refl)
+tick-rest r Empty Nothing Modbus false e = idle (omega arith) (unasked tick refl)
+tick-rest r (Full f t) Nothing Thermostat false e = idle (omega arith) (unasked tick refl)
+tick-rest r (Full f t) Nothing Modbus false e = idle (omega arith) (unasked tick refl)
 tick-rest r Empty (Waits w u) Thermostat false e =
     send w (record { word = w .word }) u (left (Rest r) Thermostat) (older u) refl refl refl (λ s. omega arith) (omega arith)
 tick-rest r Empty (Waits w u) Modbus false e =
@@ -113,8 +76,8 @@ tick-talk : (q : Frame) (a u : ℕ) (h : Slot) (o : Order) (own l : Talker) (t :
     let L : Line = record { turn = Talk own q a (older u); held = heldOlder h; order = orderOlder o; last = l } in
     Moves tick (lifeOf (Talk own q a u) o l) (cond t (says (turned L (Talk own q (older a) (older u))) Quiet) (silenceOf L own (older u)))
 unfolding heldOlder orderOlder silenceOf endedOf
-tick-talk q a u h Nothing Thermostat l true e = idle (omega arith) tick-unasked
-tick-talk q a u h Nothing Thermostat l false e = idle (omega arith) tick-unasked
+tick-talk q a u h Nothing Thermostat l true e = idle (omega arith) (unasked tick refl)
+tick-talk q a u h Nothing Thermostat l false e = idle (omega arith) (unasked tick refl)
 tick-talk q a u h (Waits w x) Thermostat l true e =
     let lt = ltb-true (older a) silence e in
     wait w x (left (Talk Thermostat q a u) l) (older x) (left (Talk Thermostat q (older a) (older u)) l) (omega arith) (λ s. omega arith) (omega arith) (omega arith)
@@ -122,7 +85,7 @@ tick-talk q a u h (Waits w x) Thermostat l false e =
     wait w x (left (Talk Thermostat q a u) l) (older x) 975 (omega arith) (λ s. omega arith) (omega arith) (omega arith)
 tick-talk q a u h o Modbus l true e =
     let lt = ltb-true (older a) silence e in
-    talk q a u (older a) (older u) (omega arith) (λ s. omega arith) (λ s. omega arith) (λ s. omega arith) (deaf-tick q a)
+    talk q a u (older a) (older u) (omega arith) (λ s. omega arith) (λ s. omega arith) (λ s. omega arith) (deaf tick refl q a)
 tick-talk q a u h o Modbus l false e =
     let le = ltb-false (older a) silence e in
     over q a u (older u) refl refl (λ s. omega arith) (omega arith)
@@ -159,9 +122,9 @@ move-thermostat : (l : Line) (f : Frame) (p q : Bool) →
     Moves (thermostat f) (life l)
     (must p l 5 (must q l 6 (says (record { turn = l .turn; held = Full f 0; order = l .order; last = l .last }) Held)))
 unfolding refusal
-move-thermostat l f true true = passes (thermostat f) (noteOf Held) l refl (omega arith) (thermostat-unasked f) (deaf-thermostat f)
-move-thermostat l f true false = passes (thermostat f) _ l refl (omega arith) (thermostat-unasked f) (deaf-thermostat f)
-move-thermostat l f false q = passes (thermostat f) _ l refl (omega arith) (thermostat-unasked f) (deaf-thermostat f)
+move-thermostat l f true true = passes (thermostat f) (noteOf Held) l refl (omega arith) (unasked (thermostat f) refl) (deaf (thermostat f) refl)
+move-thermostat l f true false = passes (thermostat f) _ l refl (omega arith) (unasked (thermostat f) refl) (deaf (thermostat f) refl)
+move-thermostat l f false q = passes (thermostat f) _ l refl (omega arith) (unasked (thermostat f) refl) (deaf (thermostat f) refl)
 
 -- an order
 move-order : (t : Turn) (h : Slot) (o : Order) (l : Talker) (w : Question) →
@@ -170,17 +133,17 @@ unfolding orderOf underWay
 move-order (Rest r) h (Waits v u) Thermostat w = same (order w) _ (waits v u (left (Rest r) Thermostat)) refl (omega arith) (omega arith)
 move-order (Rest r) h (Waits v u) Modbus w = same (order w) _ (waits v u (left (Rest r) Modbus)) refl (omega arith) (omega arith)
 move-order (Talk Thermostat q a t) h (Waits v u) l w = same (order w) _ (waits v u (left (Talk Thermostat q a t) l)) refl (omega arith) (omega arith)
-move-order (Talk Modbus q a t) h (Waits v u) l w = same (order w) _ (talks q a t) refl (omega arith) (deaf-order w q a)
+move-order (Talk Modbus q a t) h (Waits v u) l w = same (order w) _ (talks q a t) refl (omega arith) (deaf (order w) refl q a)
 move-order (Rest r) h Nothing Thermostat w = takes w (left (Rest r) Thermostat) refl refl (omega arith) (omega arith)
 move-order (Rest r) h Nothing Modbus w = takes w (left (Rest r) Modbus) refl refl (omega arith) (omega arith)
 move-order (Talk Thermostat q a t) h Nothing l w = takes w (left (Talk Thermostat q a t) l) refl refl (omega arith) (omega arith)
-move-order (Talk Modbus q a t) h Nothing l w = same (order w) _ (talks q a t) refl (omega arith) (deaf-order w q a)
+move-order (Talk Modbus q a t) h Nothing l w = same (order w) _ (talks q a t) refl (omega arith) (deaf (order w) refl q a)
 
 -- a boiler frame that is refused
 unheard : (f : Frame) (n : ℕ) (own : Talker) (q : Frame) (a u : ℕ) (o : Order) (l : Talker) → Deaf (boiler f) q a →
     let x = lifeOf (Talk own q a u) o l in
     Move 1950 (Own 0) (boiler f) (refused n) x x
-unheard f n Thermostat q a u Nothing l d = idle (omega arith) (boiler-unasked f)
+unheard f n Thermostat q a u Nothing l d = idle (omega arith) (unasked (boiler f) refl)
 unheard f n Thermostat q a u (Waits w x) l d = same (boiler f) _ (waits w x (left (Talk Thermostat q a u) l)) refl (omega arith) (omega arith)
 unheard f n Modbus q a u o l d = same (boiler f) _ (talks q a u) refl (omega arith) d
 
@@ -195,7 +158,12 @@ move-ends : (own : Talker) (q : Frame) (a u : ℕ) (h : Slot) (o : Order) (l : T
 unfolding answeredOf endedOf
 move-ends Modbus q a u h o l f ma lo hi = hear q a u f refl refl ma lo hi
 move-ends Thermostat q a u h Nothing l f ma lo hi =
-    idle (ends-aside (passesOf (record { turn = Talk Thermostat q a u; held = h; order = Nothing; last = l }) u) f) (boiler-unasked f)
+    idle (ends-aside (passesOf (record {
+      turn = Talk Thermostat q a u;
+      held = h;
+      order = Nothing;
+      last = l;
+    }) u) f) (unasked (boiler f) refl)
 move-ends Thermostat q a u h (Waits w x) l f ma lo hi =
     wait w x (left (Talk Thermostat q a u) l) x 975
     (ends-aside (passesOf (record { turn = Talk Thermostat q a u; held = h; order = Waits w x; last = l }) u) f)
@@ -207,14 +175,14 @@ boiler-talk : (own : Talker) (q : Frame) (a u : ℕ) (h : Slot) (o : Order) (l :
     Moves (boiler f) (lifeOf (Talk own q a u) o l) (must (x && y) L 7 (must z L 8 (answeredOf L own u f)))
 unfolding refusal
 boiler-talk own q a u h o l f true true true ex ey ez = move-ends own q a u h o l f ez (omega (arith, leb-true earliest a ex)) (omega (arith, leb-true a latest ey))
-boiler-talk own q a u h o l f true true false ex ey ez = unheard f 8 own q a u o l (deaf-by f q a (λ m lo hi. let t : _≡_ {A = ℕ} 0 1 = cc in omega arith))
+boiler-talk own q a u h o l f true true false ex ey ez = unheard f 8 own q a u o l (deaf-by f q a (λ m lo hi. clash cc))
 boiler-talk own q a u h o l f true false z ex ey ez = unheard f 7 own q a u o l (deaf-by f q a (λ m lo hi. omega (arith, leb-false a latest ey)))
 boiler-talk own q a u h o l f false y z ex ey ez = unheard f 7 own q a u o l (deaf-by f q a (λ m lo hi. omega (arith, leb-false earliest a ex)))
 
 boiler-turn : (t : Turn) (h : Slot) (o : Order) (l : Talker) (f : Frame) →
     Moves (boiler f) (lifeOf t o l) (heardOf (record { turn = t; held = h; order = o; last = l }) f)
 unfolding refusal heardOf
-boiler-turn (Rest r) h Nothing l f = idle (omega arith) (boiler-unasked f)
+boiler-turn (Rest r) h Nothing l f = idle (omega arith) (unasked (boiler f) refl)
 boiler-turn (Rest r) h (Waits w u) Thermostat f = same (boiler f) _ (waits w u (left (Rest r) Thermostat)) refl (omega arith) (omega arith)
 boiler-turn (Rest r) h (Waits w u) Modbus f = same (boiler f) _ (waits w u (left (Rest r) Modbus)) refl (omega arith) (omega arith)
 boiler-turn (Talk own q a u) h o l f = boiler-talk own q a u h o l f (leb earliest a) (leb a latest) (matchesOf (q .word) (f .word)) refl refl refl
@@ -224,16 +192,16 @@ move-boiler : (l : Line) (f : Frame) (p q : Bool) → evenOf (f .word) ≡ p →
 unfolding refusal
 move-boiler l f true true ep eq = boiler-turn (l .turn) (l .held) (l .order) (l .last) f
 move-boiler l f true false ep eq =
-    passes (boiler f) (refused 6) l refl (omega arith) (boiler-unasked f)
+    passes (boiler f) (refused 6) l refl (omega arith) (unasked (boiler f) refl)
     (λ q a. deaf-by f q a (λ m lo hi. omega (arith, match-type (q .word) (f .word) m, leb-false 4 (typeOf (f .word)) eq)))
 move-boiler l f false q ep eq =
-    passes (boiler f) (refused 5) l refl (omega arith) (boiler-unasked f)
-    (λ q a. deaf-by f q a (λ m lo hi. let ev = match-even (q .word) (f .word) m in let t : _≡_ {A = ℕ} 0 1 = cc in omega arith))
+    passes (boiler f) (refused 5) l refl (omega arith) (unasked (boiler f) refl)
+    (λ q a. deaf-by f q a (λ m lo hi. let ev = match-even (q .word) (f .word) m in clash cc))
 
 -- every event, at every line
 pub move : (l : Line) (e : Event) → Moves e (life l) (doOf l e)
 unfolding thermostatOf boilerOf
-move l pass = passes pass nothing l refl (omega arith) pass-unasked deaf-pass
+move l pass = passes pass nothing l refl (omega arith) (unasked pass refl) (deaf pass refl)
 move l tick = tick-turn (l .turn) (l .held) (l .order) (l .last)
 move l (thermostat f) = move-thermostat l f (evenOf (f .word)) (leb (typeOf (f .word)) 2)
 move l (boiler f) = move-boiler l f (evenOf (f .word)) (leb 4 (typeOf (f .word))) refl refl

@@ -1,13 +1,14 @@
 -- The life of an order, and how an event moves it. `Promise` makes demand 3 of a run of moves; `Life` makes a move of each event of a line.
--- Assumes nothing: these are definitions.
+-- Assumes nothing.
 use Prim.Native.Nat.{ℕ, _+_, _≤_, _<_}
-use mathlib.Core.Path.{_≡_}
+use mathlib.Core.Path.{_≡_, ap}
 use mathlib.Core.Bool.{true}
+use native.Mathlib.Omega.{arith}
 use Rattle.word.specs.declared.Frame.{Frame}
 use Rattle.word.specs.Frame.{matchesOf}
 use Rattle.line.specs.declared.Question.{Question}
 use Rattle.line.specs.declared.Talker.the-variants.{Modbus}
-use Rattle.line.specs.Events.{Event, tick, boiler, order, beat, Note, about, accepts, accepted, sent, answer, no-answer}
+use Rattle.line.specs.Events.{Event, pass, tick, thermostat, boiler, order, beat, Note, about, accepts, accepted, sent, answer, no-answer}
 
 pub data Life : Type 0 where
   none : Life
@@ -23,6 +24,34 @@ Deaf e q a = (b : Frame) → e ≡ boiler b → matchesOf (q .word) (b .word) �
 -- the event is no order
 unfoldable pub Unasked : Event → Type 0
 Unasked e = (w : Question) → e ≡ order w → ⊥
+
+-- an event of another kind is no order and no answer
+abbrev pub orders : Event → ℕ
+orders pass = 0
+orders tick = 0
+orders (thermostat f) = 0
+orders (boiler f) = 0
+orders (order w) = 1
+
+abbrev pub boils : Event → ℕ
+boils pass = 0
+boils tick = 0
+boils (thermostat f) = 0
+boils (boiler f) = 1
+boils (order w) = 0
+
+pub unasked : (e : Event) → orders e ≡ 0 → Unasked e
+unfolding Unasked
+unasked e z w q = let one = ap orders q in omega arith
+
+pub deaf : (e : Event) → boils e ≡ 0 → (q : Frame) (a : ℕ) → Deaf e q a
+unfolding Deaf
+deaf e z q a b is ma lo hi = let one = ap boils is in omega arith
+
+-- a frame answers nothing if it doesn't match, or comes at another age
+pub deaf-by : (f q : Frame) (a : ℕ) → (matchesOf (q .word) (f .word) ≡ true → 84 ≤ a → a ≤ 874 → ⊥) → Deaf (boiler f) q a
+unfolding Deaf
+deaf-by f q a off b e ma lo hi = let is : f ≡ b = cc in off (rw is ma) lo hi
 
 -- the note says nothing of an order
 abbrev pub Other : Note → Type 0

@@ -7,14 +7,13 @@ use Prim.Native.Nat.{ℕ, zero, suc, _≤_, _<_}
 use mathlib.Core.Path.{_≡_, sym, ap, _∙_, subst}
 use mathlib.Core.Logic.{_⊎_, inl, inr, ⊎-elim}
 use native.Mathlib.Omega.{arith}
-use native.Mathlib.Decide.{decLt}
 use Rattle.word.specs.declared.Frame.{Frame}
 use Rattle.line.specs.declared.Question.{Question}
 use Rattle.line.specs.declared.Talker.the-variants.{Modbus}
 use Rattle.line.specs.Events.{order, Events, Notes, accepted, sent, ticks, about, ends, Never}
 use Rattle.line.specs.Promise.{Owns, Accepted, Ending, answered, silent, Served, Open, Asked, Demand3}
 use Rattle.line.proofs.Moves.{Life, none, waits, talks, Unasked, Move, idle, takes, wait, send, talk, over, hear}
-use Rattle.line.proofs.Clock.{last-or, more}
+use Rattle.line.proofs.Clock.{last-or, meet, more}
 use Rattle.line.proofs.Stage.{Waiting, Stage, start, next, open-of}
 
 module _ (B : ℕ) (fits : B < 65535) (Own : Owns) (h : Events) (s : Notes) where
@@ -54,21 +53,13 @@ module _ (B : ℕ) (fits : B < 65535) (Own : Owns) (h : Events) (s : Notes) wher
 
   -- an order has at most one outcome
   one : (i k m : ℕ) (w : Question) → Served B Own h s i w k → Served B Own h s i w m → k ≡ m
-  one i k m w x y = go (decLt k m) (decLt m k)
-    where
-      go : Dec (k < m) → Dec (m < k) → k ≡ m
-      go (yes l) g = absurd (y .only k (omega (arith, x .sending, x .later)) l (ended i k w x))
-      go (no l) (yes g) = absurd (x .only m (omega (arith, y .sending, y .later)) g (ended i m w y))
-      go (no l) (no g) = omega arith
+  one i k m w x y =
+      meet k m (λ l. y .only k (omega (arith, x .sending, x .later)) l (ended i k w x)) (λ g. x .only m (omega (arith, y .sending, y .later)) g (ended i m w y))
 
   -- an outcome is one order's
   same-order : (i j k : ℕ) (v w : Question) → Accepted h s i v → Accepted h s j w → Served B Own h s i v k → Served B Own h s j w k → i ≡ j
-  same-order i j k v w a b x y = go (decLt i j) (decLt j i)
-    where
-      go : Dec (i < j) → Dec (j < i) → i ≡ j
-      go (yes l) g = absurd (x .alone j l (omega (arith, y .sending, y .later)) (ap about (b .taken)))
-      go (no l) (yes g) = absurd (y .alone i g (omega (arith, x .sending, x .later)) (ap about (a .taken)))
-      go (no l) (no g) = omega arith
+  same-order i j k v w a b x y =
+      meet i j (λ l. x .alone j l (omega (arith, y .sending, y .later)) (ap about (b .taken))) (λ g. y .alone i g (omega (arith, x .sending, x .later)) (ap about (a .taken)))
 
   module _ (lf : ℕ → Life) (fresh : lf 0 ≡ none) (mv : (n : ℕ) → Move B (Own n) (h n) (s n) (lf n) (lf (suc n))) where
     progress : (i : ℕ) (w : Question) → Accepted h s i w → (n : ℕ) → i < n → Stage B fits Own h s i w n (lf n) ⊎ Done i w n

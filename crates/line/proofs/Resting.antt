@@ -2,13 +2,12 @@
 -- Assumes nothing.
 use Prim.Native.Nat.{ℕ}
 use mathlib.Core.Path.{_≡_, refl, ap, _∙_, sym}
-use mathlib.Core.Bool.{Bool, true, false, not, _&&_}
-use native.Mathlib.Omega.{arith}
+use mathlib.Core.Bool.{true, false, not, _&&_}
 use borrow.Author.Tests.{eqb-true}
 use lib.Dec.{eqb}
+use Rattle.word.proofs.Clash.{clash}
 use Rattle.word.proofs.Match.{both}
 use Rattle.line.specs.declared.Line.{Line}
-use Rattle.line.specs.declared.Step.{Step}
 use Rattle.line.specs.declared.Said.the-variants.{Quiet}
 use Rattle.line.specs.declared.Talker.{Talker}
 use Rattle.line.specs.declared.Talker.the-variants.{Thermostat, Modbus}
@@ -31,7 +30,7 @@ resting Thermostat = refl
 resting Modbus = refl
 
 no : false ≡ true → ⊥
-no e = let z : _≡_ {A = ℕ} 0 1 = cc in omega arith
+no e = clash cc
 
 cases : (t : Turn) (h : Slot) (o : Order) (x : Talker) → (rested t && (noneHeld h && not (waits o))) ≡ true → tickOf (line t h o x) ≡ says (line t h o x) Quiet
 cases (Talk own f a u) h o x e = absurd (no e)

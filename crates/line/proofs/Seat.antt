@@ -6,6 +6,7 @@ use mathlib.Core.Bool.{Bool, true, false, cond, _&&_}
 use native.Mathlib.Omega.{arith}
 use lib.Dec.{ltb, leb}
 use borrow.Author.Tests.{ltb-true, ltb-false, leb-true, leb-false}
+use Rattle.word.proofs.Clash.{clash}
 use Rattle.word.specs.declared.Frame.{Frame}
 use Rattle.word.specs.Frame.{evenOf, typeOf, matchesOf}
 use Rattle.word.proofs.Match.{match-even, match-type}
@@ -25,8 +26,7 @@ use Rattle.line.specs.Turns.{earliest, latest, silence, full-rest, patie
 use Rattle.line.specs.Events.{Event, pass, tick, thermostat, boiler, order, beat, Note, nothing, dropped, accepted, exception, sent, answer, no-answer, refused, noteOf, about, accepts, Events}
 use Rattle.line.specs.Relay.{Relay}
 use Rattle.line.specs.History.{doOf, lineAt, saidAt, notes}
-use Rattle.line.proofs.Moves.{Deaf}
-use Rattle.line.proofs.Life.{deaf-pass, deaf-tick, deaf-thermostat, deaf-order, deaf-by}
+use Rattle.line.proofs.Moves.{Deaf, deaf, deaf-by}
 use Rattle.line.proofs.Shifts.{Asking, off, asks, Mute, Keeps, none, one, Shift, rest, take, go, talk, over, hear, drop}
 use Rattle.line.proofs.Relay.{relay}
 
@@ -78,7 +78,7 @@ tick-talk : (q : Frame) (a u : ℕ) (h : Slot) (o : Order) (own l : Talker) (t :
 unfolding silenceOf endedOf
 tick-talk q a u h o Thermostat l true e =
     let lt = ltb-true (older a) silence e in
-    talk q a u (older a) (older u) (mute nothing refl) (older-keeps h) (λ s. omega arith) (λ s. omega arith) (λ s. omega arith) (deaf-tick q a)
+    talk q a u (older a) (older u) (mute nothing refl) (older-keeps h) (λ s. omega arith) (λ s. omega arith) (λ s. omega arith) (deaf tick refl q a)
 tick-talk q a u h o Thermostat l false e = let le = ltb-false (older a) silence e in over q a u refl (mute nothing refl) (older-keeps h) (omega arith)
 tick-talk q a u h o Modbus l true e = rest h (mute nothing refl) (older-keeps h)
 tick-talk q a u h o Modbus l false e = rest h (mute-order (no-answer (older u)) (omega arith)) (older-keeps h)
@@ -111,15 +111,20 @@ shift-thermostat : (l : Line) (f : Frame) (p q : Bool) →
 unfolding refusal
 shift-thermostat l f true true = take f refl refl
 shift-thermostat l f true false =
-    stays (thermostat f) (refused 6) (l .turn) (l .held) refl (mute (refused 6) refl) (deaf-to (thermostat f) (l .turn) (deaf-thermostat f))
+    stays (thermostat f) (refused 6) (l .turn) (l .held) refl (mute (refused 6) refl) (deaf-to (thermostat f) (l .turn) (deaf (thermostat f) refl))
 shift-thermostat l f false q =
-    stays (thermostat f) (refused 5) (l .turn) (l .held) refl (mute (refused 5) refl) (deaf-to (thermostat f) (l .turn) (deaf-thermostat f))
+    stays (thermostat f) (refused 5) (l .turn) (l .held) refl (mute (refused 5) refl) (deaf-to (thermostat f) (l .turn) (deaf (thermostat f) refl))
 
 -- an order
 shift-order : (l : Line) (w : Question) (b : Bool) →
-    Shifts (order w) (l .turn) (l .held) (cond b (says l Busy) (says (record { turn = l .turn; held = l .held; order = Waits w 0; last = l .last }) Taken))
-shift-order l w true = stays (order w) (exception 6) (l .turn) (l .held) refl (mute (exception 6) refl) (deaf-to (order w) (l .turn) (deaf-order w))
-shift-order l w false = stays (order w) accepted (l .turn) (l .held) refl (mute-order accepted (omega arith)) (deaf-to (order w) (l .turn) (deaf-order w))
+    Shifts (order w) (l .turn) (l .held) (cond b (says l Busy) (says (record {
+      turn = l .turn;
+      held = l .held;
+      order = Waits w 0;
+      last = l .last;
+    }) Taken))
+shift-order l w true = stays (order w) (exception 6) (l .turn) (l .held) refl (mute (exception 6) refl) (deaf-to (order w) (l .turn) (deaf (order w) refl))
+shift-order l w false = stays (order w) accepted (l .turn) (l .held) refl (mute-order accepted (omega arith)) (deaf-to (order w) (l .turn) (deaf (order w) refl))
 
 -- a boiler frame that ends a talk
 shift-ends : (own : Talker) (q : Frame) (a u : ℕ) (h : Slot) (o : Order) (l : Talker) (f : Frame) (t : Bool) →
@@ -146,7 +151,7 @@ unfolding refusal
 boiler-talk own q a u h o l f true true true ex ey ez =
     shift-ends own q a u h o l f (leb u patience) ez (omega (arith, leb-true earliest a ex)) (omega (arith, leb-true a latest ey)) refl
 boiler-talk own q a u h o l f true true false ex ey ez =
-    unheard own q a u h f 8 (deaf-by f q a (λ m lo hi. let t : _≡_ {A = ℕ} 0 1 = cc in omega arith))
+    unheard own q a u h f 8 (deaf-by f q a (λ m lo hi. clash cc))
 boiler-talk own q a u h o l f true false z ex ey ez = unheard own q a u h f 7 (deaf-by f q a (λ m lo hi. omega (arith, leb-false a latest ey)))
 boiler-talk own q a u h o l f false y z ex ey ez = unheard own q a u h f 7 (deaf-by f q a (λ m lo hi. omega (arith, leb-false earliest a ex)))
 
@@ -165,12 +170,12 @@ shift-boiler l f true false ep eq =
     (deaf-to (boiler f) (l .turn) (λ q a. deaf-by f q a (λ m lo hi. omega (arith, match-type (q .word) (f .word) m, leb-false 4 (typeOf (f .word)) eq))))
 shift-boiler l f false q ep eq =
     stays (boiler f) (refused 5) (l .turn) (l .held) refl (mute (refused 5) refl)
-    (deaf-to (boiler f) (l .turn) (λ q a. deaf-by f q a (λ m lo hi. let ev = match-even (q .word) (f .word) m in let t : _≡_ {A = ℕ} 0 1 = cc in omega arith)))
+    (deaf-to (boiler f) (l .turn) (λ q a. deaf-by f q a (λ m lo hi. let ev = match-even (q .word) (f .word) m in clash cc)))
 
 -- every event, at every line
 pub shift : (l : Line) (e : Event) → Shifts e (l .turn) (l .held) (doOf l e)
 unfolding thermostatOf boilerOf orderOf
-shift l pass = stays pass nothing (l .turn) (l .held) refl (mute nothing refl) (deaf-to pass (l .turn) deaf-pass)
+shift l pass = stays pass nothing (l .turn) (l .held) refl (mute nothing refl) (deaf-to pass (l .turn) (deaf pass refl))
 shift l tick = tick-turn (l .turn) (l .held) (l .order) (l .last)
 shift l (thermostat f) = shift-thermostat l f (evenOf (f .word)) (leb (typeOf (f .word)) 2)
 shift l (boiler f) = shift-boiler l f (evenOf (f .word)) (leb 4 (typeOf (f .word))) refl refl

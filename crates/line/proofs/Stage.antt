@@ -5,7 +5,7 @@
 -- Assumes nothing.
 use Prim.Native.Nat.{ℕ, suc, _+_, _≤_, _<_}
 use mathlib.Core.Path.{_≡_, sym, ap, _∙_, subst}
-use mathlib.Core.Logic.{_⊎_, inl, inr, ⊎-elim}
+use mathlib.Core.Logic.{_⊎_, inl, inr}
 use mathlib.Core.Bool.{true}
 use native.Mathlib.Omega.{arith}
 use Rattle.word.specs.declared.Frame.{Frame}
@@ -13,9 +13,10 @@ use Rattle.word.specs.Frame.{matchesOf}
 use Rattle.line.specs.declared.Question.{Question}
 use Rattle.line.specs.declared.Talker.the-variants.{Modbus}
 use Rattle.line.specs.Events.{tick, boiler, Events, Notes, sent, answer, no-answer, beat, clock, ticks, about, accepts, sends, ends, Never}
-use Rattle.line.specs.Promise.{Owns, Accepted, Answers, Ending, answered, silent, Served, Open}
+use Rattle.line.specs.Promise.{Owns, Accepted, Ending, answered, silent, Served, Open}
 use Rattle.line.proofs.Moves.{Life, none, waits, talks, Deaf, Unasked, Other, Move, idle, takes, wait, send, talk, over, hear}
-use Rattle.line.proofs.Clock.{clock-suc, last-or, side, more}
+use Rattle.line.proofs.Clock.{clock-suc, meet, more}
+use Rattle.line.proofs.Pending.{Pending, begins, goes-on, answers}
 
 module _ (B : ℕ) (fits : B < 65535) (Own : Owns) (h : Events) (s : Notes) where
   pub record Waiting (i : ℕ) (w : Question) (n : ℕ) (v : Question) (u p : ℕ) : Type 0 where
@@ -30,16 +31,13 @@ module _ (B : ℕ) (fits : B < 65535) (Own : Owns) (h : Events) (s : Notes) wher
   pub record Talking (i : ℕ) (w : Question) (n : ℕ) (q : Frame) (a u : ℕ) : Type 0 where
     pub j : ℕ
     pub sending : i < j
-    pub later : j < n
     pub own : s j ≡ sent Modbus q
     pub asks : Own j w q
     pub before-own : Never s sends i j
     pub after-own : Never s sends j n
-    pub age-own : a + clock h (suc j) ≡ clock h n
+    pub out : Pending h j q n a
     pub age : u + clock h (suc i) ≡ clock h n
     pub bound : u + 875 ≤ B + a
-    pub short : a < 875
-    pub first : (m : ℕ) (b : Frame) → m < n → Answers h j q m b → ⊥
     pub only : Never s ends i n
     pub alone : Never s accepts i n
 
@@ -96,43 +94,33 @@ module _ (B : ℕ) (fits : B < 65535) (Own : Owns) (h : Events) (s : Notes) wher
         record {
           j = n;
           sending = old;
-          later = omega arith;
           own = es;
           asks = subst (λ (x : Question). Own n x q) (o .is) ak;
           before-own = o .unsent;
           after-own = λ m lo up on. omega arith;
-          age-own = omega arith;
+          out = begins h q n;
           age = omega arith;
           bound = omega arith;
-          short = omega arith;
-          first = λ m b lt an. omega (arith, an .after);
           only = more s ends i n (o .only) (λ on. omega arith);
           alone = more s accepts i n (o .alone) (λ on. omega arith);
         }
 
     next-talk : (q : Frame) (a u a′ u′ : ℕ) → Other (s n) → (a < 875 → a′ ≡ a + beat (h n)) → (u < 65535 → u′ ≡ u + beat (h n)) → (a < 875 → a′ < 875) →
         Deaf (h n) q a → Talking i w n q a u → Talking i w (suc n) q a′ u′
-    unfolding Deaf
     next-talk q a u a′ u′ c ea eu es d o =
         let cl = clock-suc h n in
-        let ea′ : a′ ≡ a + beat (h n) = ea (o .short) in
-        let eu′ : u′ ≡ u + beat (h n) = eu (omega arith) in
-        let now : (b : Frame) → Answers h (o .j) q n b → ⊥ =
-        λ b an. let eb : beat (h n) ≡ 0 = ap beat (an .frame) in
-        d b (an .frame) (an .matches) (omega (arith, an .from)) (omega (arith, an .upto)) in
+        let ea′ : a′ ≡ a + beat (h n) = ea (o .out .short) in
+        let eu′ : u′ ≡ u + beat (h n) = eu (omega (arith, o .out .short)) in
         record {
           j = o .j;
           sending = o .sending;
-          later = omega arith;
           own = o .own;
           asks = o .asks;
           before-own = o .before-own;
           after-own = more s sends (o .j) n (o .after-own) (λ on. omega arith);
-          age-own = omega arith;
+          out = goes-on h (o .j) q n a a′ ea es d (o .out);
           age = omega arith;
           bound = omega arith;
-          short = es (o .short);
-          first = λ m b lt an. ⊎-elim (λ l. o .first m b l an) (λ e. now b (rw e at an)) (last-or m n lt);
           only = more s ends i n (o .only) (λ on. omega arith);
           alone = more s accepts i n (o .alone) (λ on. omega arith);
         }
@@ -142,13 +130,13 @@ module _ (B : ℕ) (fits : B < 65535) (Own : Owns) (h : Events) (s : Notes) wher
       j = o .j;
       q = q;
       sending = o .sending;
-      later = o .later;
+      later = o .out .later;
       own = o .own;
       asks = o .asks;
       before-own = o .before-own;
       after-own = o .after-own;
       ending = e;
-      first = o .first;
+      first = o .out .first;
       soon = soon;
       only = o .only;
       alone = o .alone;
@@ -158,6 +146,8 @@ module _ (B : ℕ) (fits : B < 65535) (Own : Owns) (h : Events) (s : Notes) wher
     next-over q a u u′ et es eu ge o =
         let cl = clock-suc h n in
         let eb : beat (h n) ≡ 1 = ap beat et in
+        let age = o .out .age in
+        let short = o .out .short in
         let eu′ : u′ ≡ u + 1 = eu (omega arith) in
         served q a u o (omega arith) (silent et (omega arith) (es ∙ ap no-answer (omega arith)))
 
@@ -166,9 +156,7 @@ module _ (B : ℕ) (fits : B < 65535) (Own : Owns) (h : Events) (s : Notes) wher
     next-answer q a u b et es ma lo hi o =
         let cl = clock-suc h n in
         let eb : beat (h n) ≡ 0 = ap beat et in
-        served q a u o (omega arith)
-        (answered b (record { frame = et; matches = ma; after = o .later; from = omega arith; upto = omega arith })
-        (es ∙ ap (answer b) (omega arith)))
+        served q a u o (omega (arith, o .out .short)) (answered b (answers h (o .j) q n a b et ma lo hi (o .out)) (es ∙ ap (answer b) (omega arith)))
 
     pub next : {x y : Life} → Move B (Own n) (h n) (s n) x y → Stage i w n x → Stage i w (suc n) y ⊎ Served B Own h s i w n
     next (idle c no-order) o = absurd o
@@ -182,9 +170,7 @@ module _ (B : ℕ) (fits : B < 65535) (Own : Owns) (h : Events) (s : Notes) wher
   -- while a talk of Modbus goes on, its own frame is the only one
   own-only : (i : ℕ) (w : Question) (n : ℕ) (q : Frame) (a u : ℕ) (o : Talking i w n q a u) (j : ℕ) (p : Frame) → i < j → j < n → s j ≡ sent Modbus p → (j ≡ o .j) × (p ≡ q)
   own-only i w n q a u o j p lo up e =
-      let before : o .j ≤ j = ⊎-elim (λ l. absurd (o .before-own j lo l (ap about e))) (λ g. g) (side j (o .j)) in
-      let after : j ≤ o .j = ⊎-elim (λ l. absurd (o .after-own j l up (ap about e))) (λ g. g) (side (o .j) j) in
-      let is : j ≡ o .j = omega arith in
+      let is : j ≡ o .j = meet j (o .j) (λ l. o .before-own j lo l (ap about e)) (λ l. o .after-own j l up (ap about e)) in
       let e′ : s (o .j) ≡ sent Modbus p = rw is at e in
       let own = o .own in
       (is, cc)
@@ -199,11 +185,11 @@ module _ (B : ℕ) (fits : B < 65535) (Own : Owns) (h : Events) (s : Notes) wher
     unanswered = λ j q m b lo up e an. o .unsent j lo (omega (arith, an .after)) (ap about e);
   }
   open-of i w n (talks q a u) o = record {
-    soon = omega arith;
+    soon = omega (arith, o .out .short);
     only = o .only;
     alone = o .alone;
-    short = λ j p lo up e. rw (own-only i w n q a u o j p lo up e .0) (omega arith);
+    short = λ j p lo up e. rw (own-only i w n q a u o j p lo up e .0) (omega (arith, o .out .age, o .out .short));
     unanswered = λ j p m b lo up e an.
         let is = own-only i w n q a u o j p lo (omega (arith, an .after)) e in
-        o .first m b up (rw (is .0, is .1) at an);
+        o .out .first m b up (rw (is .0, is .1) at an);
   }

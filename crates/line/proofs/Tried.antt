@@ -7,6 +7,7 @@ use native.Mathlib.Omega.{arith}
 use lib.Dec.{leb}
 use lib.Count.{ones}
 use borrow.Author.Tests.{le-leb}
+use Rattle.word.proofs.Clash.{clash}
 use Rattle.word.specs.declared.Frame.{Frame}
 use Rattle.word.specs.Frame.{evenOf, typeOf, matchesOf}
 use Rattle.word.proofs.Match.{match-even, match-type}
@@ -97,7 +98,7 @@ unfolding slowest saidAt lineAt orderOf underWay thermostatOf evenOf typeOf ones
 reached = refl
 
 wait-of : (i j k : ℕ) (q : Frame) (n : ℕ) → notes slowest k ≡ no-answer n → Ending slowest (notes slowest) j q k (ticks slowest i k) → ticks slowest i k ≡ n
-wait-of i j k q n r (answered b an s) = absurd (let z : _≡_ {A = ℕ} 0 1 = cc in omega arith)
+wait-of i j k q n r (answered b an s) = clash cc
 wait-of i j k q n r (silent t n′ s) = cc
 
 pub tight : ((h : Events) → Demand3 1949 Own h (notes h)) → ⊥

@@ -83,7 +83,12 @@ waitingOf l Modbus = orderFrame l (l .order)
 
 -- "a talk starts at age 0": what goes out waits no longer
 unfoldable pub sendsOf : Line → Talker → Frame → ℕ → Step
-sendsOf l Thermostat f t = says (record { turn = Talk Thermostat f 0 t; held = Empty; order = l .order; last = l .last }) (Sent Thermostat f)
+sendsOf l Thermostat f t = says (record {
+  turn = Talk Thermostat f 0 t;
+  held = Empty;
+  order = l .order;
+  last = l .last;
+}) (Sent Thermostat f)
 sendsOf l Modbus f t = says (record { turn = Talk Modbus f 0 t; held = l .held; order = Nothing; last = l .last }) (Sent Modbus f)
 
 -- the round of talkers: who comes after whom, and all of them from there to the one who talked last

@@ -9,6 +9,7 @@ use native.Mathlib.Omega.{arith}
 use borrow.Author.Tests.{leb-true, eqb-true, eqb-false}
 use lib.Dec.{eqb, leb, ltb, lit<}
 use lib.ListN.{length, getD, take}
+use Rattle.word.proofs.Clash.{clash}
 use Rattle.word.specs.Bytes.{pairAt}
 use Rattle.word.proofs.Match.{both}
 use Rattle.word.proofs.Place.{pair-past}
@@ -49,10 +50,10 @@ passed true answer next r e n = (refl, e)
 passed false answer next r e n = absurd (n e)
 
 silent-never : (n : ℕ) (o : Order) → Silent n ≡ Accepted o → ⊥
-silent-never n o e = let z : _≡_ {A = ℕ} 0 1 = cc in omega arith
+silent-never n o e = clash cc
 
 at-once-never : (r : Reply) (o : Order) → AtOnce r ≡ Accepted o → ⊥
-at-once-never r o e = let z : _≡_ {A = ℕ} 0 1 = cc in omega arith
+at-once-never r o e = clash cc
 
 own-never : (a : Fields) (o : Order) → ownOf a ≡ Accepted o → ⊥
 unfolding ownOf

@@ -2,8 +2,8 @@
 -- Assumes nothing.
 use mathlib.Core.Path.{_≡_, refl}
 use Prim.Native.Nat.{ℕ, _≤_}
-use native.Mathlib.Omega.{arith}
 use lib.Dec.{lit≤}
+use Rattle.word.proofs.Clash.{clash}
 use Rattle.word.specs.Frame.{bare, evened, builtOf}
 use Rattle.word.specs.declared.Built.the-variants.{Word, Refused}
 use Rattle.modbus.specs.declared.QuestionType.{QuestionType}
@@ -22,4 +22,4 @@ always-built WriteData i v = refl
 always-built InvalidData i v = refl
 
 pub never-refused : (n : ℕ) (t : QuestionType) (i v : ℕ) → Refused n ≡ builtOf (typeNumber t) i v → ⊥
-never-refused n t i v e = let built = always-built t i v in let z : _≡_ {A = ℕ} 0 1 = cc in omega arith
+never-refused n t i v e = let built = always-built t i v in clash cc

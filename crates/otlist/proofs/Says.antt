@@ -2,14 +2,14 @@
 -- Assumes nothing.
 use mathlib.Core.Path.{_≡_, refl}
 use mathlib.Core.Bool.{Bool, true, false, cond}
-use mathlib.Core.List.{List, [], _∷_, _++_}
-use Prim.Native.Nat.{ℕ, suc, _+_, _-_, _/_, _%_, _^_, _≤_, _<_}
+use mathlib.Core.List.{List, _∷_}
+use Prim.Native.Nat.{ℕ, _+_, _-_, _/_, _%_, _^_, _≤_, _<_}
 use native.Mathlib.Omega.{arith}
 use lib.Dec.{eqb, ltb}
 use lib.ListN.{length, length-append}
 use borrow.Author.Tests.{ltb-false}
 use Rattle.word.specs.Frame.{evenOf, typeOf, idOf, valueOf}
-use Rattle.text.specs.Text.{emptyText, puts, says, decimalOf, hexOf}
+use Rattle.text.specs.Text.{emptyText, puts, says, decimalOf}
 use Rattle.text.proofs.Puts.{decimal-short, hex-length, says-puts}
 use Rattle.values.specs.Ids.{kindOf}
 use Rattle.otlist.specs.Listing.{nameOf, signedOf, numbersOf, fieldsOf, lineOf}

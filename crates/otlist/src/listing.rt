@@ -1,10 +1,9 @@
 // One line of the listing from one word.
 use text::Text;
 ghost use mathlib.Core.Path.{_≡_};
-ghost use mathlib.Core.List.{_∷_, []};
 ghost use Prim.Native.Nat.{_<_, _≤_, _+_};
 ghost use Rattle.text.specs.Text.{emptyText, puts};
-ghost use Rattle.otlist.specs.Listing.{nameOf, signedOf, numbersOf, fieldsOf, lineOf, space};
+ghost use Rattle.otlist.specs.Listing.{nameOf, signedOf, numbersOf, fieldsOf, lineOf};
 
 fn name(t: Text, kind: u8) -> Text
     ensures { λ r. ⌜ r ≡ puts t (nameOf kind) ⌝ }

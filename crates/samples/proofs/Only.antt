@@ -9,6 +9,7 @@ use Prim.Native.Nat.{ℕ, zero, suc, _+_, _-_, _≤_, _<_}
 use native.Mathlib.Decide.{decLt}
 use native.Mathlib.Omega.{arith}
 use lib.ListN.{length, replicate}
+use Rattle.word.proofs.Clash.{clash}
 use Rattle.samples.specs.declared.Phase.the-variants.{Bits}
 use Rattle.samples.specs.declared.Reader.{Reader}
 use Rattle.samples.specs.declared.Answer.{Answer}
@@ -135,10 +136,10 @@ tailOf (x ∷ l) = l
 
 from : (n : ℕ) (h : List ℕ) (r : Reader) (l : List ℕ) (w : ℕ) → Told h r → answersOf r l ≡ none n ++ (frame w ∷ []) → Heard (h ++ l) w
 unfolding answersOf
-from zero h r [] w t e = absurd (let z : _≡_ {A = ℕ} 0 1 = cc in omega arith)
-from (suc n) h r [] w t e = absurd (let z : _≡_ {A = ℕ} 0 1 = cc in omega arith)
+from zero h r [] w t e = clash cc
+from (suc n) h r [] w t e = clash cc
 from zero h r (x ∷ []) w t e = told-next h r x t .given w (ap headOf e)
-from zero h r (x ∷ y ∷ l) w t e = absurd (let f = ap tailOf e in let z : _≡_ {A = ℕ} 0 1 = cc in omega arith)
+from zero h r (x ∷ y ∷ l) w t e = let f = ap tailOf e in clash cc
 from (suc n) h r (x ∷ l) w t e =
     subst (λ (y : List ℕ). Heard y w) (append-assoc h (x ∷ []) l)
     (from n (h ++ (x ∷ [])) (stepOf r x .reader) l w (told-next h r x t .on (ap headOf e)) (ap tailOf e))

@@ -29,7 +29,7 @@ length-samples w = omega (arith, length-in (frameBits w), length-frame w)
 
 bits-at : (k w j : ℕ) → j < k → getD (bitsOf k w) j 0 ≡ w / 2 ^ (k - suc j) % 2
 unfolding bitsOf
-bits-at zero w j h = absurd (let z : ⊥ = omega arith in z)
+bits-at zero w j h = absurd (omega arith)
 bits-at (suc k) w zero h = ap (λ (x : ℕ). w / 2 ^ x % 2) (let e : k ≡ suc k - 1 = omega arith in e)
 bits-at (suc k) w (suc j) h = bits-at k w j (omega arith) ∙ ap (λ (x : ℕ). w / 2 ^ x % 2) (let e : k - suc j ≡ suc k - suc (suc j) = omega arith in e)
 
@@ -46,7 +46,7 @@ data-at w (suc j) z h =
 -- sample j of bit n
 in-at : (l : List ℕ) (n j : ℕ) → n < length l → j < 20 → getD (inSamples l) (20 * n + j) 0 ≡ getD (bitSamples (getD l n 0)) j 0
 unfolding inSamples
-in-at [] n j h g = absurd (let z : ⊥ = omega arith in z)
+in-at [] n j h g = absurd (omega arith)
 in-at (b ∷ l) zero j h g =
     ap (λ (x : ℕ). getD (bitSamples b ++ inSamples l) x 0) (let e : 20 * 0 + j ≡ j = omega arith in e)
     ∙ List·getD-append (bitSamples b) (inSamples l) 0 j g

@@ -52,7 +52,7 @@ bits-of-stretches true (zero ∷ l) h = ap (λ (y : List ℕ). 0 ∷ y) (bits-of
 bits-of-stretches false (zero ∷ l) h = ap (λ (y : List ℕ). 0 ∷ y) (bits-of-stretches true l (h .1))
 bits-of-stretches true (suc zero ∷ l) h = ap (λ (y : List ℕ). 1 ∷ y) (bits-of-stretches false l (h .1))
 bits-of-stretches false (suc zero ∷ l) h = ap (λ (y : List ℕ). 1 ∷ y) (bits-of-stretches false l (h .1))
-bits-of-stretches a (suc (suc b) ∷ l) h = absurd (let z : ⊥ = omega (arith, h .0) in z)
+bits-of-stretches a (suc (suc b) ∷ l) h = absurd (omega (arith, h .0))
 
 -- a bit's samples, moved by the half bit that follows a middle edge
 moved : (a : Bool) (b : ℕ) (r : List ℕ) → b < 2
@@ -61,7 +61,7 @@ moved true zero r h = refl
 moved false zero r h = refl
 moved true (suc zero) r h = refl
 moved false (suc zero) r h = refl
-moved a (suc (suc b)) r h = absurd (let z : ⊥ = omega arith in z)
+moved a (suc (suc b)) r h = absurd (omega arith)
 
 run-of-bits : (a : Bool) (l : List ℕ) → Binary l
     → replicate 9 (levelOf a) ++ inSamples l ≡ stretchesSamples a (stretchesTo a l) ++ (replicate 9 (levelOf (levelAfter a (stretchesTo a l))) ++ [])

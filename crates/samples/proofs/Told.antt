@@ -8,6 +8,7 @@ use Prim.Native.Nat.{ℕ, zero, suc, _+_, _-_, _≤_, _<_}
 use native.Mathlib.Decide.{decLt}
 use native.Mathlib.Omega.{arith}
 use lib.ListN.{length, replicate, replicate-append-replicate}
+use Rattle.word.proofs.Clash.{clash}
 use Rattle.samples.specs.declared.Phase.{Phase}
 use Rattle.samples.specs.declared.Phase.the-variants.{Waiting, Start, Bits}
 use Rattle.samples.specs.declared.Reader.{Reader}
@@ -48,18 +49,18 @@ module _ (h : List ℕ) (x : ℕ) (y : Step) where
   pub goes : (p : Phase) → y ≡ goesOn p → Told (h ++ (x ∷ [])) (record { phase = p }) → Next h x y
   goes p e t = record {
     on = λ f. subst (λ (q : Step). Told (h ++ (x ∷ [])) (q .reader)) (sym e) t;
-    given = λ w f. absurd (let z : _≡_ {A = ℕ} 0 1 = cc (ap (λ (q : Step). q .answer) e) in omega arith);
+    given = λ w f. clash (cc (ap (λ (q : Step). q .answer) e));
   }
 
   pub refuses : (n : ℕ) → y ≡ gives (Refused n) → Next h x y
   refuses n e = record {
-    on = λ f. absurd (let z : _≡_ {A = ℕ} 0 1 = cc (ap (λ (q : Step). q .answer) e) in omega arith);
-    given = λ w f. absurd (let z : _≡_ {A = ℕ} 0 1 = cc (ap (λ (q : Step). q .answer) e) in omega arith);
+    on = λ f. clash (cc (ap (λ (q : Step). q .answer) e));
+    given = λ w f. clash (cc (ap (λ (q : Step). q .answer) e));
   }
 
   pub ends : (v : ℕ) → y ≡ gives (frame v) → Heard (h ++ (x ∷ [])) v → Next h x y
   ends v e g = record {
-    on = λ f. absurd (let z : _≡_ {A = ℕ} 0 1 = cc (ap (λ (q : Step). q .answer) e) in omega arith);
+    on = λ f. clash (cc (ap (λ (q : Step). q .answer) e));
     given = λ w f. subst (Heard (h ++ (x ∷ []))) (ap wordIn (sym (ap (λ (q : Step). q .answer) e) ∙ f)) g;
   }
 

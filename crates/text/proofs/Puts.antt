@@ -1,6 +1,6 @@
 -- Laws of text: bytes are put in parts, a decimal goes digit by digit, and an empty line says what was put into it.
 -- Assumes nothing.
-use mathlib.Core.Path.{_≡_, refl, sym, ap, ap₂, _∙_}
+use mathlib.Core.Path.{_≡_, refl, sym, ap, _∙_}
 use mathlib.Core.Bool.{Bool, true, false, cond}
 use mathlib.Core.List.{List, [], _∷_, _++_, append-nil}
 use Prim.Native.Nat.{ℕ, zero, suc, _+_, _-_, _*_, _/_, _%_, _^_, _≤_, _<_}
@@ -9,7 +9,7 @@ use native.Mathlib.Numerals.{add-one}
 use native.Mathlib.Omega.{arith}
 use borrow.Author.Tests.{lt-ltb, le-ltb, ltb-true, ltb-false}
 use lib.Dec.{ltb}
-use lib.ListN.{length, take, set, replicate, length-append, length-set}
+use lib.ListN.{length, take, set, length-append, length-set}
 use lib.Seq.{take-suc-set, append-snoc}
 use Rattle.text.specs.declared.Text.{Text}
 use Rattle.text.specs.Text.{emptyText, pushed, puts, says, digit, hexDigit, digitsIn, decimalOf, hexOf}
@@ -33,8 +33,8 @@ puts-field t a x b = puts-append t a (x ∷ b)
 -- more places than a number needs change nothing
 fewer : (k m n : ℕ) → n < k → n < m → digitsIn k n ≡ digitsIn m n
 unfolding digitsIn
-fewer zero m n h g = absurd (let z : ⊥ = omega arith in z)
-fewer (suc k) zero n h g = absurd (let z : ⊥ = omega arith in z)
+fewer zero m n h g = absurd (omega arith)
+fewer (suc k) zero n h g = absurd (omega arith)
 fewer (suc k) (suc m) n h g = go (ltb n 10) refl (λ big. fewer k m (n / 10) (omega arith) (omega arith))
   where
     go : (b : Bool) → ltb n 10 ≡ b → (10 ≤ n → digitsIn k (n / 10) ≡ digitsIn m (n / 10)) →
@@ -68,7 +68,7 @@ decimal-short (suc k) n h = go (ltb n 10) refl (λ big. decimal-short k (n / 10)
 -- a last digit more
 pub hex-more : (k n : ℕ) → 0 < k → hexOf k n ≡ hexOf (k - 1) (n / 16) ++ (hexDigit (n % 16) ∷ [])
 unfolding hexOf
-hex-more zero n h = absurd (let z : ⊥ = omega arith in z)
+hex-more zero n h = absurd (omega arith)
 hex-more (suc k) n h =
     let e : k ≡ suc k - 1 = omega arith in
     ap (λ (m : ℕ). hexOf m (n / 16) ++ (hexDigit (n % 16) ∷ [])) e

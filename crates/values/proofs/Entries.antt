@@ -5,9 +5,9 @@ use mathlib.Core.List.{List, [], _∷_}
 use mathlib.Core.Bool.{Bool, true, false, _&&_, _||_, Bool·beq}
 use Prim.Native.Nat.{ℕ, _≤_, _<_}
 use lib.Dec.{T, eqb, eqb→eq, leb}
-use lib.ListN.{length, getD}
+use lib.ListN.{getD}
 use borrow.Author.Tests.{le-leb}
-use Rattle.values.specs.Ids.{Row, rows, listedIn, packedIn, listed, entryOf, readableOf, writableOf}
+use Rattle.values.specs.Ids.{rows, listedIn, packedIn, listed, entryOf, readableOf, writableOf}
 use Rattle.word.proofs.Table.{at}
 
 unfoldable pub table : List ℕ

@@ -1,12 +1,12 @@
 -- A number over 256 as a single-precision float, and back: nothing is rounded.
 -- Assumes nothing.
-use mathlib.Core.Path.{_≡_, refl, sym, ap, _∙_, subst}
-use Prim.Native.Nat.{ℕ, zero, suc, _+_, _-_, _*_, _/_, _%_, _^_, _≤_, _<_, zero-le, suc-le-suc}
+use mathlib.Core.Path.{_≡_, sym, ap, _∙_, subst}
+use Prim.Native.Nat.{ℕ, zero, suc, _-_, _*_, _^_, _≤_, _<_, zero-le, suc-le-suc}
 use native.Mathlib.Nat.{mul-one, mul-assoc, mul-comm, mul-pos, lt-of-lt-of-le}
 use native.Mathlib.Omega.{arith}
 use mathlib.Core.Bool.{Bool, true, false, cond}
 use mathlib.Core.Logic.{_⊎_, inl, inr, ⊎-elim}
-use lib.Dec.{T, lit<, lit≤, ltb}
+use lib.Dec.{T, lit<, lit≤}
 use lib.Pow.{shl-lt}
 use borrow.Author.Tests.{le-leb, lt-leb}
 use lib.IntN.{pos}

@@ -1,14 +1,14 @@
 -- A NaN, minus zero, 0.3 and 128 are refused: none is a raw number over 256.
 -- Assumes nothing.
-use mathlib.Core.Path.{_≡_, refl, sym, subst}
+use mathlib.Core.Path.{_≡_, sym, subst}
 use mathlib.Core.Logic.{⊎-elim}
 use mathlib.Core.Bool.{true, false}
-use Prim.Native.Nat.{ℕ, _-_, _≤_, _<_}
+use Prim.Native.Nat.{ℕ, _-_, _<_}
 use native.Mathlib.Omega.{arith}
 use lib.Dec.{T}
 use lib.Ieee.{Float, binary32, ofBits}
 use lib.Ieee.Exact.{HasValue}
-use Rattle.values.specs.Real.{realOf, BackOf}
+use Rattle.values.specs.Real.{BackOf}
 use Rattle.values.specs.declared.Back.{Back}
 use Rattle.values.specs.declared.Back.the-variants.{Refused}
 use Rattle.values.proofs.Exact.{lt-or-ge}

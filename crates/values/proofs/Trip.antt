@@ -1,16 +1,16 @@
 -- Each raw number comes back from its typed value; the answers are determined; what is refused is exactly what no raw number gives.
 -- Assumes nothing.
-use mathlib.Core.Path.{_≡_, refl, sym, ap, ap₂, _∙_, subst}
+use mathlib.Core.Path.{_≡_, refl, sym, ap, ap₂, _∙_}
 use mathlib.Core.Bool.{Bool, true, false, cond}
 use Prim.Native.Nat.{ℕ, _+_, _*_, _/_, _%_, _<_}
 use native.Mathlib.Nat.{div-add-mod'}
 use native.Mathlib.Omega.{arith}
 use lib.Dec.{eqb}
-use lib.IntN.{ℤ}
 use lib.Ieee.{Float}
 use mir.Syntax.{w8, w16}
-use mir.Val.{toZ, ofZ}
+use mir.Val.{toZ}
 use mir.ValLaws.{ofZ-toZ}
+use Rattle.word.proofs.Clash.{clash}
 use Rattle.values.specs.Real.{realOf, BackOf}
 use Rattle.values.specs.Ids.{kindOf}
 use Rattle.values.specs.Typed.{readAs, BitsOf}
@@ -57,7 +57,7 @@ bits-one (Raw n) r s p q = p ∙ sym q
 
 -- refused: exactly the floats that no raw number gives
 pub refused-none : (x : Float) (n : ℕ) → BackOf x (Refused n) → (raw : ℕ) → raw < 0x1_0000 → x ≡ realOf raw → ⊥
-refused-none x n p raw h e = let q : Refused n ≡ Bits raw = p .given raw h e in let z : _≡_ {A = ℕ} 0 1 = cc in omega arith
+refused-none x n p raw h e = let q : Refused n ≡ Bits raw = p .given raw h e in clash cc
 
 pub none-refused : (x : Float) (r : Back) → BackOf x r → ((raw : ℕ) → raw < 0x1_0000 → x ≡ realOf raw → ⊥) → r ≡ Refused 10
 none-refused x (Bits a) p f = absurd (f a (p .found a refl .0) (p .found a refl .1))

@@ -4,7 +4,6 @@ use mathlib.Core.Path.{_≡_}
 use Prim.Native.Nat.{ℕ, _+_, _*_, _/_, _%_}
 use mathlib.Core.Bool.{cond}
 use lib.Dec.{eqb}
-use lib.IntN.{ℤ}
 use mir.Syntax.{w8, w16}
 use mir.Val.{toZ, ofZ}
 use Rattle.values.specs.Ids.{real, s16, u16, pair, spair}

@@ -6,12 +6,13 @@ use Prim.Native.Nat.{ℕ, _≤_}
 use native.Mathlib.Omega.{arith}
 use lib.Dec.{eqb}
 use borrow.Author.Tests.{eqb-true}
+use Rattle.word.proofs.Clash.{clash}
 use Rattle.word.specs.Frame.{evenOf, idOf, typeOf, suitsOf, matchesOf}
 
 -- both parts of a conjunction that holds
 pub both : (a b : Bool) → (a && b) ≡ true → (a ≡ true) × (b ≡ true)
 both true b e = (refl, e)
-both false b e = absurd (let z : _≡_ {A = ℕ} 0 1 = cc in omega arith)
+both false b e = clash cc
 
 pub match-even : (q b : ℕ) → matchesOf q b ≡ true → evenOf b ≡ true
 unfolding matchesOf
@@ -33,7 +34,7 @@ suits-type q a s = go (eqb a 6) (eqb a 7) (eqb a 4) (eqb a 5) (eqb q 0) (eqb q 1
     go false true four five r w e6 e7 e4 e5 t = omega (arith, eqb-true a 7 e7)
     go false false true five r w e6 e7 e4 e5 t = omega (arith, eqb-true a 4 e4)
     go false false false true r w e6 e7 e4 e5 t = omega (arith, eqb-true a 5 e5)
-    go false false false false r w e6 e7 e4 e5 t = absurd (let z : _≡_ {A = ℕ} 0 1 = cc in omega arith)
+    go false false false false r w e6 e7 e4 e5 t = clash cc
 
 pub match-type : (q b : ℕ) → matchesOf q b ≡ true → 4 ≤ typeOf b
 unfolding matchesOf

@@ -1,6 +1,6 @@
 -- Laws of the parity: flipping any one bit turns even into odd and odd into even, and the bit that `evened` adds makes a word even.
 -- Assumes nothing.
-use mathlib.Core.Path.{_≡_, refl, sym, ap, ap₂, _∙_, subst}
+use mathlib.Core.Path.{_≡_, refl, ap, ap₂, _∙_}
 use Prim.Native.Nat.{ℕ, zero, suc, _+_, _*_, _/_, _%_, _^_, _<_}
 use native.Mathlib.Nat.{add-comm, mod-lt, zero-lt-suc, pow-suc, mul-div-cancel, mul-mod-left}
 use native.Mathlib.Omega.{arith}
@@ -11,26 +11,22 @@ use lib.Pow.{pow-lt}
 use lib.Arith.{digits-div, digits-mod}
 use lib.Bits.{bitXor, differ, xor-step, xor-zero-r, xor-lt}
 use lib.Count.{ones, ones-step, ones-cat}
-use Rattle.word.specs.Frame.{evenOf, evened}
+use Rattle.word.specs.Frame.{evenOf, flip, evened}
 
-two-pos : 0 < 2
+pub two-pos : 0 < 2
 two-pos = zero-lt-suc 1
 
--- the word with bit k flipped
-abbrev pub flip : ℕ → ℕ → ℕ
-flip k w = bitXor w (2 ^ k)
-
-differ-lt : (x y : ℕ) → x < 2 → y < 2 → differ x y < 2
+pub differ-lt : (x y : ℕ) → x < 2 → y < 2 → differ x y < 2
 differ-lt zero y a b = b
 differ-lt (suc zero) zero a b = a
 differ-lt (suc zero) (suc zero) a b = two-pos
-differ-lt (suc (suc x)) y a b = absurd (let z : ⊥ = omega arith in z)
-differ-lt (suc zero) (suc (suc y)) a b = absurd (let z : ⊥ = omega arith in z)
+differ-lt (suc (suc x)) y a b = omega arith
+differ-lt (suc zero) (suc (suc y)) a b = omega arith
 
 differ-one : (x : ℕ) → x < 2 → differ x 1 + x ≡ 1
 differ-one zero h = refl
 differ-one (suc zero) h = refl
-differ-one (suc (suc x)) h = absurd (let z : ⊥ = omega arith in z)
+differ-one (suc (suc x)) h = omega arith
 
 differ-none : (x : ℕ) → differ x 0 ≡ x
 differ-none zero = refl
@@ -83,7 +79,7 @@ one-bit : (r : ℕ) → r < 2 → ones r ≡ r
 unfolding ones
 one-bit zero h = refl
 one-bit (suc zero) h = refl
-one-bit (suc (suc r)) h = absurd (let z : ⊥ = omega arith in z)
+one-bit (suc (suc r)) h = omega arith
 
 pub evened-even : (b : ℕ) → b < 2 ^ 31 → evenOf (evened b) ≡ true
 unfolding evenOf

@@ -1,12 +1,12 @@
 -- Numbers of two and of four bytes are read as they were written, at any place. One lemma over the place: a word's halves, a
 -- Modbus message's fields and a reply's cite it.
 -- Assumes nothing.
-use mathlib.Core.Path.{_≡_, sym, ap, ap₂, _∙_}
+use mathlib.Core.Path.{_≡_, sym, ap₂, _∙_}
 use mathlib.Core.List.{List, [], _∷_, _++_, append-assoc}
 use Prim.Native.Nat.{ℕ, _+_, _*_, _/_, _%_, _≤_}
 use native.Mathlib.Omega.{arith}
 use native.Mathlib.Nat.{div-add-mod'}
-use lib.ListN.{length, getD, length-append, List·getD-eq-default}
+use lib.ListN.{length, length-append, List·getD-eq-default}
 use lib.Seq.{getD-append-seam, getD-append-add}
 use Rattle.word.specs.Bytes.{pairAt, pair, wordAt, quad}
 

@@ -1,16 +1,16 @@
 -- Worked words: `ones` takes as many steps as the number, so a worked word is counted digit by digit, by a test that computes.
 -- Assumes nothing.
 use mathlib.Core.Path.{_≡_, sym, ap, _∙_, subst}
-use mathlib.Core.Bool.{Bool, cond, _&&_}
+use mathlib.Core.Bool.{Bool, _&&_}
 use Prim.Native.Nat.{ℕ, zero, suc, _+_, _*_, _/_, _%_, _^_, _<_}
 use native.Mathlib.Nat.{pow-suc}
 use native.Mathlib.Omega.{arith}
-use borrow.Author.Tests.{ltb-true, ltb-false, leb-true, le-ltb, eqb-true}
+use borrow.Author.Tests.{ltb-true, leb-true, le-ltb, eqb-true}
 use lib.Dec.{eqb, ltb, leb}
 use lib.Arith.{lt-one}
 use lib.Count.{ones, onesIn, ones-step}
-use Rattle.word.specs.declared.Built.the-variants.{Word, Refused}
-use Rattle.word.specs.Frame.{bare, evened, builtOf}
+use Rattle.word.specs.declared.Built.the-variants.{Word}
+use Rattle.word.specs.Frame.{bare, builtOf}
 use Rattle.word.proofs.Match.{both}
 use mathlib.Core.Bool.{true}
 

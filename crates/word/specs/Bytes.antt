@@ -1,7 +1,7 @@
 -- Numbers of two and of four bytes, the high byte first.
 -- Assumes nothing: these are definitions.
 use Prim.Native.Nat.{ℕ, _+_, _*_, _/_, _%_}
-use mathlib.Core.List.{List, [], _∷_}
+use mathlib.Core.List.{List, _∷_}
 use lib.ListN.{getD}
 
 -- two bytes at a place of a list; bytes past the end count as 0

@@ -1,7 +1,8 @@
 -- The frame word (01, 'Frame word'): its fields, its parity, a word from its fields, and a boiler's word that matches a question.
 -- Assumes nothing: these are definitions.
 use Prim.Native.Nat.{ℕ, _+_, _*_, _/_, _%_, _^_}
-use mathlib.Core.Bool.{Bool, true, false, cond, _&&_, _||_}
+use mathlib.Core.Bool.{Bool, cond, _&&_, _||_}
+use lib.Bits.{bitXor}
 use lib.Dec.{eqb, ltb}
 use lib.Count.{ones}
 use Rattle.word.specs.declared.Built.{Built}
@@ -27,6 +28,10 @@ valueOf w = field 0 16 w
 -- "The number of ones is even." (Over all 32 bits.)
 unfoldable pub evenOf : ℕ → Bool
 evenOf w = eqb (ones w % 2) 0
+
+-- the word with bit k flipped
+abbrev pub flip : ℕ → ℕ → ℕ
+flip k w = bitXor w (2 ^ k)
 
 -- "Types: 0 READ-DATA, 1 WRITE-DATA, 2 INVALID-DATA, 3 reserved, 4 READ-ACK, 5 WRITE-ACK, 6 DATA-INVALID, 7 UNKNOWN-DATAID."
 abbrev pub read-data : ℕ

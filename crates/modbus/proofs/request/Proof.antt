@@ -21,7 +21,12 @@ passes-requires c κs = search needs
 
 returns-3 : tie.Need-returns-3
 unfolding requestOf
-returns-3 c = rw (le-leb _ _ (c .before .before .before .if1 .left), le-leb _ _ (c .before .before .if2 .left), ← c .before .passes .ensures, not-true (c .before .passes .result) (c .if3 .taken))
+returns-3 c = rw (
+  le-leb _ _ (c .before .before .before .if1 .left),
+  le-leb _ _ (c .before .before .if2 .left),
+  ← c .before .passes .ensures,
+  not-true (c .before .passes .result) (c .if3 .taken),
+)
 
 sub-n : tie.Need-sub-n
 sub-n c = search needs
@@ -34,7 +39,13 @@ read-requires c κs = search needs
 
 returns-4 : tie.Need-returns-4
 unfolding requestOf
-returns-4 c = rw (le-leb _ _ (c .before .before .before .before .before .if1 .left), le-leb _ _ (c .before .before .before .before .if2 .left), ← c .before .before .before .passes .ensures, not-false (c .before .before .before .passes .result) (c .before .before .if3 .left), ← c .read .ensures)
+returns-4 c = rw (
+  le-leb _ _ (c .before .before .before .before .before .if1 .left),
+  le-leb _ _ (c .before .before .before .before .if2 .left),
+  ← c .before .before .before .passes .ensures,
+  not-false (c .before .before .before .passes .result) (c .before .before .if3 .left),
+  ← c .read .ensures,
+)
 
 pub request-spec : {M : Type 1} → statement M
 request-spec =

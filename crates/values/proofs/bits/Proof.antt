@@ -1,10 +1,9 @@
 -- `values::bits` meets its contract: each case's bits, and a real's by the number that gives it.
 -- Assumes nothing.
-use mathlib.Core.Path.{_≡_, sym, ap, ap₂, _∙_}
+use mathlib.Core.Path.{_≡_, ap, ap₂, _∙_}
 use Prim.Native.Nat.{ℕ, _+_, _*_}
 use mir.Syntax.{w8, w16}
 use mir.Val.{toZ, ofZ}
-use mir.ValLaws.{ofZ-toZ}
 use Rattle.values.specs.declared.Back.the-variants.{Bits}
 use borrow.Author.Needs.{needs}
 use Rattle.values.proofs.bits.Statement.{statement}

@@ -30,7 +30,15 @@ same-length c = search needs
 
 returns : tie.Need-returns
 unfolding tickOf
-returns c = rw (le-leb _ _ (c .before .before .before .before .before .before .before .before .before .before .before .pre), ← (c .before .before .before .before .before .before .before .before .tick-all .ensures), ← (c .before .before .before .before .before .before .before .after-tick .ensures), ← (c .before .before .before .before .before .tell .ensures .0), c .before .before .lines-of .ensures, c .before .still .ensures, c .outs-of .ensures) (refl, c .before .before .before .before .before .tell .ensures .1)
+returns c = rw (
+  le-leb _ _ (c .before .before .before .before .before .before .before .before .before .before .before .pre),
+  ← (c .before .before .before .before .before .before .before .before .tick-all .ensures),
+  ← (c .before .before .before .before .before .before .before .after-tick .ensures),
+  ← (c .before .before .before .before .before .tell .ensures .0),
+  c .before .before .lines-of .ensures,
+  c .before .still .ensures,
+  c .outs-of .ensures,
+) (refl, c .before .before .before .before .before .tell .ensures .1)
 
 pub moves-spec : {M : Type 1} → statement M
 moves-spec =

@@ -24,14 +24,21 @@ refused-requires-2 c κs = search needs
 
 returns-2 : tie.Need-returns-2
 unfolding heardOf
-returns-2 c = rw (c .before .before .before .turn .given .1, lt-leb _ _ (c .before .if1 .taken)) (rw (c .before .before .before .turn .given .1) at (c .refused2 .ensures))
+returns-2 c = rw (
+  c .before .before .before .turn .given .1,
+  lt-leb _ _ (c .before .if1 .taken),
+) (rw (c .before .before .before .turn .given .1) at (c .refused2 .ensures))
 
 refused-requires-3 : tie.Need-refused-requires-3
 refused-requires-3 c κs = search needs
 
 returns-3 : tie.Need-returns-3
 unfolding heardOf
-returns-3 c = rw (c .before .before .before .before .turn .given .1, le-leb _ _ (c .before .before .if1 .left), lt-leb _ _ (c .before .if2 .taken)) (rw (c .before .before .before .before .turn .given .1) at (c .refused3 .ensures))
+returns-3 c = rw (
+  c .before .before .before .before .turn .given .1,
+  le-leb _ _ (c .before .before .if1 .left),
+  lt-leb _ _ (c .before .if2 .taken),
+) (rw (c .before .before .before .before .turn .given .1) at (c .refused3 .ensures))
 
 matches-requires : tie.Need-matches-requires
 matches-requires c κs = search needs
@@ -41,14 +48,26 @@ refused-requires-4 c κs = search needs
 
 returns-4 : tie.Need-returns-4
 unfolding heardOf
-returns-4 c = rw (c .before .before .before .before .before .before .turn .given .1, le-leb _ _ (c .before .before .before .before .if1 .left), le-leb _ _ (c .before .before .before .if2 .left), ← c .before .before .matches .ensures, not-true (c .before .before .matches .result) (c .before .if3 .taken)) (rw (c .before .before .before .before .before .before .turn .given .1) at (c .refused4 .ensures))
+returns-4 c = rw (
+  c .before .before .before .before .before .before .turn .given .1,
+  le-leb _ _ (c .before .before .before .before .if1 .left),
+  le-leb _ _ (c .before .before .before .if2 .left),
+  ← c .before .before .matches .ensures,
+  not-true (c .before .before .matches .result) (c .before .if3 .taken),
+) (rw (c .before .before .before .before .before .before .turn .given .1) at (c .refused4 .ensures))
 
 answered-requires : tie.Need-answered-requires
 answered-requires c κs = search needs
 
 returns-5 : tie.Need-returns-5
 unfolding heardOf
-returns-5 c = rw (c .before .before .before .before .before .before .turn .given .1, le-leb _ _ (c .before .before .before .before .if1 .left), le-leb _ _ (c .before .before .before .if2 .left), ← c .before .before .matches .ensures, not-false (c .before .before .matches .result) (c .before .if3 .left)) (rw (c .before .before .before .before .before .before .turn .given .1) at (c .answered .ensures))
+returns-5 c = rw (
+  c .before .before .before .before .before .before .turn .given .1,
+  le-leb _ _ (c .before .before .before .before .if1 .left),
+  le-leb _ _ (c .before .before .before .if2 .left),
+  ← c .before .before .matches .ensures,
+  not-false (c .before .before .matches .result) (c .before .if3 .left),
+) (rw (c .before .before .before .before .before .before .turn .given .1) at (c .answered .ensures))
 
 pub heard-spec : {M : Type 1} → statement M
 heard-spec =

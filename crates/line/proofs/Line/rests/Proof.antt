@@ -24,7 +24,12 @@ start-requires c κs = search needs
 
 returns-2 : tie.Need-returns-2
 unfolding restsOf
-returns-2 c = rw (← c .before .before .before .older .ensures, le-ltb _ _ (c .before .before .if1 .left), ← c .before .turned2 .ensures, ← c .start .ensures)
+returns-2 c = rw (
+  ← c .before .before .before .older .ensures,
+  le-ltb _ _ (c .before .before .if1 .left),
+  ← c .before .turned2 .ensures,
+  ← c .start .ensures,
+)
 
 pub rests-spec : {M : Type 1} → statement M
 rests-spec =

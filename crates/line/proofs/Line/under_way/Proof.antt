@@ -33,11 +33,19 @@ returns-2 c = rw (c .before .before .enum-told2 .given .1, c .enum-told3 .given 
 
 returns-3 : tie.Need-returns-3
 unfolding underWay
-returns-3 c = rw (c .before .before .before .before .before .enum-told2 .given .1, c .before .before .before .turn .given .1, c .enum-told4 .given .1)
+returns-3 c = rw (
+  c .before .before .before .before .before .enum-told2 .given .1,
+  c .before .before .before .turn .given .1,
+  c .enum-told4 .given .1,
+)
 
 returns-4 : tie.Need-returns-4
 unfolding underWay
-returns-4 c = rw (c .before .before .before .before .before .enum-told2 .given .1, c .before .before .before .turn .given .1, c .enum-told5 .given .1)
+returns-4 c = rw (
+  c .before .before .before .before .before .enum-told2 .given .1,
+  c .before .before .before .turn .given .1,
+  c .enum-told5 .given .1,
+)
 
 pub under-way-spec : {M : Type 1} → statement M
 under-way-spec =

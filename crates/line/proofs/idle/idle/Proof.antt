@@ -35,14 +35,24 @@ enum-told-4 c = search needs
 
 returns-4 : tie.Need-returns-4
 unfolding idleOf
-returns-4 c = rw (c .before .before .before .before .before .before .turn .given .1, eq-eqb _ _ (c .before .before .before .before .if1 .left), c .before .before .enum-told3 .given .1, c .enum-told4 .given .1)
+returns-4 c = rw (
+  c .before .before .before .before .before .before .turn .given .1,
+  eq-eqb _ _ (c .before .before .before .before .if1 .left),
+  c .before .before .enum-told3 .given .1,
+  c .enum-told4 .given .1,
+)
 
 enum-told-5 : tie.Need-enum-told-5
 enum-told-5 c = search needs
 
 returns-5 : tie.Need-returns-5
 unfolding idleOf
-returns-5 c = rw (c .before .before .before .before .before .before .turn .given .1, eq-eqb _ _ (c .before .before .before .before .if1 .left), c .before .before .enum-told3 .given .1, c .enum-told5 .given .1)
+returns-5 c = rw (
+  c .before .before .before .before .before .before .turn .given .1,
+  eq-eqb _ _ (c .before .before .before .before .if1 .left),
+  c .before .before .enum-told3 .given .1,
+  c .enum-told5 .given .1,
+)
 
 pub idle-spec : {M : Type 1} → statement M
 idle-spec =

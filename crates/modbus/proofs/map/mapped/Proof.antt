@@ -32,11 +32,23 @@ at-once-requires-2 c κs = search needs
 
 returns-2 : tie.Need-returns-2
 unfolding mappedOf
-returns-2 c = rw (← c .before .before .before .before .before .before .unlike .ensures, c .before .before .before .before .before .if1 .left, ← c .before .before .before .before .find .ensures, c .before .before .r .given .1, ← c .ask .ensures)
+returns-2 c = rw (
+  ← c .before .before .before .before .before .before .unlike .ensures,
+  c .before .before .before .before .before .if1 .left,
+  ← c .before .before .before .before .find .ensures,
+  c .before .before .r .given .1,
+  ← c .ask .ensures,
+)
 
 returns-3 : tie.Need-returns-3
 unfolding mappedOf
-returns-3 c = rw (← c .before .before .before .before .before .unlike .ensures, c .before .before .before .before .if1 .left, ← c .before .before .before .find .ensures, c .before .enum-told .given .1, ← c .at-once2 .ensures)
+returns-3 c = rw (
+  ← c .before .before .before .before .before .unlike .ensures,
+  c .before .before .before .before .if1 .left,
+  ← c .before .before .before .find .ensures,
+  c .before .enum-told .given .1,
+  ← c .at-once2 .ensures,
+)
 
 pub mapped-spec : {M : Type 1} → statement M
 mapped-spec =

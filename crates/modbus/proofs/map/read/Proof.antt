@@ -18,11 +18,22 @@ returns c = rw (← c .before .before .byte-at .ensures, ← c .before .byte-at2
 
 returns-2 : tie.Need-returns-2
 unfolding readOf
-returns-2 c = rw (← c .before .before .before .byte-at .ensures, ← c .before .before .byte-at2 .ensures, le-leb _ _ (c .before .if1 .left), lt-leb _ _ (c .if2 .taken))
+returns-2 c = rw (
+  ← c .before .before .before .byte-at .ensures,
+  ← c .before .before .byte-at2 .ensures,
+  le-leb _ _ (c .before .if1 .left),
+  lt-leb _ _ (c .if2 .taken),
+)
 
 returns-3 : tie.Need-returns-3
 unfolding readOf
-returns-3 c = rw (← c .before .before .before .before .byte-at .ensures, ← c .before .before .before .byte-at2 .ensures, le-leb _ _ (c .before .before .if1 .left), le-leb _ _ (c .before .if2 .left), le-ltb _ _ (c .if3 .taken))
+returns-3 c = rw (
+  ← c .before .before .before .before .byte-at .ensures,
+  ← c .before .before .before .byte-at2 .ensures,
+  le-leb _ _ (c .before .before .if1 .left),
+  le-leb _ _ (c .before .if2 .left),
+  le-ltb _ _ (c .if3 .taken),
+)
 
 served-requires : tie.Need-served-requires
 served-requires c κs = search needs
@@ -32,7 +43,16 @@ at-once-requires c κs = search needs
 
 returns-4 : tie.Need-returns-4
 unfolding readOf
-returns-4 c = rw (← c .before .before .before .before .before .before .before .byte-at .ensures, ← c .before .before .before .before .before .before .byte-at2 .ensures, le-leb _ _ (c .before .before .before .before .before .if1 .left), le-leb _ _ (c .before .before .before .before .if2 .left), lt-ltb _ _ (c .before .before .before .if3 .left), ← c .before .before .served .ensures, not-true (c .before .before .served .result) (c .before .if4 .taken), ← c .at-once .ensures)
+returns-4 c = rw (
+  ← c .before .before .before .before .before .before .before .byte-at .ensures,
+  ← c .before .before .before .before .before .before .byte-at2 .ensures,
+  le-leb _ _ (c .before .before .before .before .before .if1 .left),
+  le-leb _ _ (c .before .before .before .before .if2 .left),
+  lt-ltb _ _ (c .before .before .before .if3 .left),
+  ← c .before .before .served .ensures,
+  not-true (c .before .before .served .result) (c .before .if4 .taken),
+  ← c .at-once .ensures,
+)
 
 formed-requires : tie.Need-formed-requires
 formed-requires c κs = search needs
@@ -42,7 +62,18 @@ at-once-requires-2 c κs = search needs
 
 returns-5 : tie.Need-returns-5
 unfolding readOf
-returns-5 c = rw (← c .before .before .before .before .before .before .before .before .before .byte-at .ensures, ← c .before .before .before .before .before .before .before .before .byte-at2 .ensures, le-leb _ _ (c .before .before .before .before .before .before .before .if1 .left), le-leb _ _ (c .before .before .before .before .before .before .if2 .left), lt-ltb _ _ (c .before .before .before .before .before .if3 .left), ← c .before .before .before .before .served .ensures, not-false (c .before .before .before .before .served .result) (c .before .before .before .if4 .left), ← c .before .before .formed .ensures, not-true (c .before .before .formed .result) (c .before .if5 .taken), ← c .at-once2 .ensures)
+returns-5 c = rw (
+  ← c .before .before .before .before .before .before .before .before .before .byte-at .ensures,
+  ← c .before .before .before .before .before .before .before .before .byte-at2 .ensures,
+  le-leb _ _ (c .before .before .before .before .before .before .before .if1 .left),
+  le-leb _ _ (c .before .before .before .before .before .before .if2 .left),
+  lt-ltb _ _ (c .before .before .before .before .before .if3 .left),
+  ← c .before .before .before .before .served .ensures,
+  not-false (c .before .before .before .before .served .result) (c .before .before .before .if4 .left),
+  ← c .before .before .formed .ensures,
+  not-true (c .before .before .formed .result) (c .before .if5 .taken),
+  ← c .at-once2 .ensures,
+)
 
 says-requires : tie.Need-says-requires
 says-requires c κs = search needs
@@ -52,7 +83,20 @@ own-requires c κs = search needs
 
 returns-6 : tie.Need-returns-6
 unfolding readOf
-returns-6 c = rw (← c .before .before .before .before .before .before .before .before .before .before .before .byte-at .ensures, ← c .before .before .before .before .before .before .before .before .before .before .byte-at2 .ensures, le-leb _ _ (c .before .before .before .before .before .before .before .before .before .if1 .left), le-leb _ _ (c .before .before .before .before .before .before .before .before .if2 .left), lt-ltb _ _ (c .before .before .before .before .before .before .before .if3 .left), ← c .before .before .before .before .before .before .served .ensures, not-false (c .before .before .before .before .before .before .served .result) (c .before .before .before .before .before .if4 .left), ← c .before .before .before .before .formed .ensures, not-false (c .before .before .before .before .formed .result) (c .before .before .before .if5 .left), eq-eqb _ _ (c .before .before .if6 .taken), ← c .before .says .ensures, ← c .own .ensures)
+returns-6 c = rw (
+  ← c .before .before .before .before .before .before .before .before .before .before .before .byte-at .ensures,
+  ← c .before .before .before .before .before .before .before .before .before .before .byte-at2 .ensures,
+  le-leb _ _ (c .before .before .before .before .before .before .before .before .before .if1 .left),
+  le-leb _ _ (c .before .before .before .before .before .before .before .before .if2 .left),
+  lt-ltb _ _ (c .before .before .before .before .before .before .before .if3 .left),
+  ← c .before .before .before .before .before .before .served .ensures,
+  not-false (c .before .before .before .before .before .before .served .result) (c .before .before .before .before .before .if4 .left),
+  ← c .before .before .before .before .formed .ensures,
+  not-false (c .before .before .before .before .formed .result) (c .before .before .before .if5 .left),
+  eq-eqb _ _ (c .before .before .if6 .taken),
+  ← c .before .says .ensures,
+  ← c .own .ensures,
+)
 
 says-requires-2 : tie.Need-says-requires-2
 says-requires-2 c κs = search needs
@@ -62,7 +106,20 @@ mapped-requires c κs = search needs
 
 returns-7 : tie.Need-returns-7
 unfolding readOf
-returns-7 c = rw (← c .before .before .before .before .before .before .before .before .before .before .before .byte-at .ensures, ← c .before .before .before .before .before .before .before .before .before .before .byte-at2 .ensures, le-leb _ _ (c .before .before .before .before .before .before .before .before .before .if1 .left), le-leb _ _ (c .before .before .before .before .before .before .before .before .if2 .left), lt-ltb _ _ (c .before .before .before .before .before .before .before .if3 .left), ← c .before .before .before .before .before .before .served .ensures, not-false (c .before .before .before .before .before .before .served .result) (c .before .before .before .before .before .if4 .left), ← c .before .before .before .before .formed .ensures, not-false (c .before .before .before .before .formed .result) (c .before .before .before .if5 .left), ne-eqb _ _ (c .before .before .if6 .left), ← c .before .says2 .ensures, ← c .mapped .ensures)
+returns-7 c = rw (
+  ← c .before .before .before .before .before .before .before .before .before .before .before .byte-at .ensures,
+  ← c .before .before .before .before .before .before .before .before .before .before .byte-at2 .ensures,
+  le-leb _ _ (c .before .before .before .before .before .before .before .before .before .if1 .left),
+  le-leb _ _ (c .before .before .before .before .before .before .before .before .if2 .left),
+  lt-ltb _ _ (c .before .before .before .before .before .before .before .if3 .left),
+  ← c .before .before .before .before .before .before .served .ensures,
+  not-false (c .before .before .before .before .before .before .served .result) (c .before .before .before .before .before .if4 .left),
+  ← c .before .before .before .before .formed .ensures,
+  not-false (c .before .before .before .before .formed .result) (c .before .before .before .if5 .left),
+  ne-eqb _ _ (c .before .before .if6 .left),
+  ← c .before .says2 .ensures,
+  ← c .mapped .ensures,
+)
 
 pub read-spec : {M : Type 1} → statement M
 read-spec =

@@ -16,7 +16,11 @@ returns-2 c = rw (eq-eqb _ _ (c .before .before .before .if1 .left), ne-eqb _ _ 
 
 returns-3 : tie.Need-returns-3
 unfolding fitsOf
-returns-3 c = rw (eq-eqb _ _ (c .before .before .before .before .before .before .if1 .left), eq-eqb _ _ (c .before .before .before .if2 .left), ne-eqb _ _ (c .if3 .taken))
+returns-3 c = rw (
+  eq-eqb _ _ (c .before .before .before .before .before .before .if1 .left),
+  eq-eqb _ _ (c .before .before .before .if2 .left),
+  ne-eqb _ _ (c .if3 .taken),
+)
 
 offset-requires : tie.Need-offset-requires
 offset-requires c κs = search needs
@@ -26,7 +30,13 @@ on-requires c κs = search needs
 
 returns-4 : tie.Need-returns-4
 unfolding fitsOf
-returns-4 c = rw (eq-eqb _ _ (c .before .before .before .before .before .before .before .before .if1 .left), eq-eqb _ _ (c .before .before .before .before .before .if2 .left), eq-eqb _ _ (c .before .before .if3 .left), ← c .before .offset .ensures, ← c .on .ensures)
+returns-4 c = rw (
+  eq-eqb _ _ (c .before .before .before .before .before .before .before .before .if1 .left),
+  eq-eqb _ _ (c .before .before .before .before .before .if2 .left),
+  eq-eqb _ _ (c .before .before .if3 .left),
+  ← c .before .offset .ensures,
+  ← c .on .ensures,
+)
 
 pub fits-spec : {M : Type 1} → statement M
 fits-spec = tie.close (tie.spec returns returns-2 returns-3 offset-requires on-requires returns-4)

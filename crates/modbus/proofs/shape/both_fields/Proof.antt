@@ -20,7 +20,13 @@ pair-at-requires-5 : tie.Need-pair-at-requires-5
 pair-at-requires-5 c κs = search needs
 
 returns : tie.Need-returns
-returns c = rw (← c .before .before .before .before .pair-at .ensures, ← c .before .before .before .pair-at2 .ensures, ← c .before .before .pair-at3 .ensures, ← c .before .pair-at4 .ensures, ← c .pair-at5 .ensures)
+returns c = rw (
+  ← c .before .before .before .before .pair-at .ensures,
+  ← c .before .before .before .pair-at2 .ensures,
+  ← c .before .before .pair-at3 .ensures,
+  ← c .before .pair-at4 .ensures,
+  ← c .pair-at5 .ensures,
+)
 
 pub both-fields-spec : {M : Type 1} → statement M
 both-fields-spec =

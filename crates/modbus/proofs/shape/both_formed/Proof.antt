@@ -33,22 +33,51 @@ mul-if2 c = search needs
 
 returns-2 : tie.Need-returns-2
 unfolding bothFormed
-returns-2 c = rw (← c .before .before .before .before .byte-at .ensures, eq-eqb _ _ (c .before .before .before .if1 .left), ← c .before .before .pair-at .ensures, ← c .before .pair-at2 .ensures, ne-eqb _ _ (c .if2 .taken))
+returns-2 c = rw (
+  ← c .before .before .before .before .byte-at .ensures,
+  eq-eqb _ _ (c .before .before .before .if1 .left),
+  ← c .before .before .pair-at .ensures,
+  ← c .before .pair-at2 .ensures,
+  ne-eqb _ _ (c .if2 .taken),
+)
 
 returns-3 : tie.Need-returns-3
 unfolding bothFormed
-returns-3 c = rw (← c .before .before .before .before .before .byte-at .ensures, eq-eqb _ _ (c .before .before .before .before .if1 .left), ← c .before .before .before .pair-at .ensures, ← c .before .before .pair-at2 .ensures, eq-eqb _ _ (c .before .if2 .left), lt-leb _ _ (c .if3 .taken))
+returns-3 c = rw (
+  ← c .before .before .before .before .before .byte-at .ensures,
+  eq-eqb _ _ (c .before .before .before .before .if1 .left),
+  ← c .before .before .before .pair-at .ensures,
+  ← c .before .before .pair-at2 .ensures,
+  eq-eqb _ _ (c .before .if2 .left),
+  lt-leb _ _ (c .if3 .taken),
+)
 
 returns-4 : tie.Need-returns-4
 unfolding bothFormed
-returns-4 c = rw (← c .before .before .before .before .before .before .byte-at .ensures, eq-eqb _ _ (c .before .before .before .before .before .if1 .left), ← c .before .before .before .before .pair-at .ensures, ← c .before .before .before .pair-at2 .ensures, eq-eqb _ _ (c .before .before .if2 .left), le-leb _ _ (c .before .if3 .left), lt-leb _ _ (c .if4 .taken))
+returns-4 c = rw (
+  ← c .before .before .before .before .before .before .byte-at .ensures,
+  eq-eqb _ _ (c .before .before .before .before .before .if1 .left),
+  ← c .before .before .before .before .pair-at .ensures,
+  ← c .before .before .before .pair-at2 .ensures,
+  eq-eqb _ _ (c .before .before .if2 .left),
+  le-leb _ _ (c .before .if3 .left),
+  lt-leb _ _ (c .if4 .taken),
+)
 
 add-result : tie.Need-add-result
 add-result c = search needs
 
 returns-5 : tie.Need-returns-5
 unfolding bothFormed
-returns-5 c = rw (← c .before .before .before .before .before .before .byte-at .ensures, eq-eqb _ _ (c .before .before .before .before .before .if1 .left), ← c .before .before .before .before .pair-at .ensures, ← c .before .before .before .pair-at2 .ensures, eq-eqb _ _ (c .before .before .if2 .left), le-leb _ _ (c .before .if3 .left), le-leb _ _ (c .if4 .left))
+returns-5 c = rw (
+  ← c .before .before .before .before .before .before .byte-at .ensures,
+  eq-eqb _ _ (c .before .before .before .before .before .if1 .left),
+  ← c .before .before .before .before .pair-at .ensures,
+  ← c .before .before .before .pair-at2 .ensures,
+  eq-eqb _ _ (c .before .before .if2 .left),
+  le-leb _ _ (c .before .if3 .left),
+  le-leb _ _ (c .if4 .left),
+)
 
 pub both-formed-spec : {M : Type 1} → statement M
 both-formed-spec =

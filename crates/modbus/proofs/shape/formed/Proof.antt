@@ -22,18 +22,34 @@ both-formed-requires c κs = search needs
 
 returns-3 : tie.Need-returns-3
 unfolding formedOf
-returns-3 c = rw (ne-eqb _ _ (c .before .before .before .if1 .left), ne-eqb _ _ (c .before .before .if2 .left), eq-eqb _ _ (c .before .if3 .taken), ← c .both-formed .ensures)
+returns-3 c = rw (
+  ne-eqb _ _ (c .before .before .before .if1 .left),
+  ne-eqb _ _ (c .before .before .if2 .left),
+  eq-eqb _ _ (c .before .if3 .taken),
+  ← c .both-formed .ensures,
+)
 
 returns-4 : tie.Need-returns-4
 unfolding formedOf
-returns-4 c = rw (ne-eqb _ _ (c .before .before .before .if1 .left), ne-eqb _ _ (c .before .before .if2 .left), ne-eqb _ _ (c .before .if3 .left), eq-eqb _ _ (c .if4 .taken))
+returns-4 c = rw (
+  ne-eqb _ _ (c .before .before .before .if1 .left),
+  ne-eqb _ _ (c .before .before .if2 .left),
+  ne-eqb _ _ (c .before .if3 .left),
+  eq-eqb _ _ (c .if4 .taken),
+)
 
 read-formed-requires : tie.Need-read-formed-requires
 read-formed-requires c κs = search needs
 
 returns-5 : tie.Need-returns-5
 unfolding formedOf
-returns-5 c = rw (ne-eqb _ _ (c .before .before .before .before .if1 .left), ne-eqb _ _ (c .before .before .before .if2 .left), ne-eqb _ _ (c .before .before .if3 .left), ne-eqb _ _ (c .before .if4 .left), ← c .read-formed .ensures)
+returns-5 c = rw (
+  ne-eqb _ _ (c .before .before .before .before .if1 .left),
+  ne-eqb _ _ (c .before .before .before .if2 .left),
+  ne-eqb _ _ (c .before .before .if3 .left),
+  ne-eqb _ _ (c .before .if4 .left),
+  ← c .read-formed .ensures,
+)
 
 pub formed-spec : {M : Type 1} → statement M
 formed-spec =

@@ -22,7 +22,12 @@ pair-at-requires c κs = search needs
 
 returns-3 : tie.Need-returns-3
 unfolding manyFormed
-returns-3 c = rw (eq-eqb _ _ (c .before .before .before .if1 .left), ← c .before .before .byte-at .ensures, eq-eqb _ _ (c .before .if2 .left), ← c .pair-at .ensures)
+returns-3 c = rw (
+  eq-eqb _ _ (c .before .before .before .if1 .left),
+  ← c .before .before .byte-at .ensures,
+  eq-eqb _ _ (c .before .if2 .left),
+  ← c .pair-at .ensures,
+)
 
 pub many-formed-spec : {M : Type 1} → statement M
 many-formed-spec =

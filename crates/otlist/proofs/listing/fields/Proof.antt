@@ -1,7 +1,6 @@
 -- `otlist::listing::fields` meets its contract: part by part.
 -- Assumes nothing.
 use borrow.Author.Needs.{needs}
-use Rattle.text.specs.Text.{puts, pushed}
 use Rattle.text.proofs.Puts.{puts-field, puts-last}
 use Rattle.otlist.specs.Listing.{fieldsOf}
 use Rattle.otlist.proofs.listing.fields.Statement.{statement}
@@ -60,7 +59,26 @@ push-requires-5 c κs = search needs
 
 returns : tie.Need-returns
 unfolding fieldsOf
-returns c = rw (puts-field, puts-field, puts-field, puts-field, puts-last, ← c .before .before .before .before .before .before .before .before .before .before .before .before .before .id-of .ensures, ← c .before .before .before .before .before .before .before .before .before .before .before .before .value-of .ensures, ← c .before .before .before .before .before .before .before .before .before .before .before .kind-of .ensures, ← c .before .before .before .before .before .before .before .before .before .before .type-of .ensures, ← c .before .before .before .before .before .before .before .before .before .decimal .ensures, ← c .before .before .before .before .before .before .before .before .push .ensures, ← c .before .before .before .before .before .before .before .decimal2 .ensures, ← c .before .before .before .before .before .before .push2 .ensures, ← c .before .before .before .before .before .hex .ensures, ← c .before .before .before .before .push3 .ensures, ← c .before .before .before .name .ensures, ← c .before .before .push4 .ensures, ← c .before .numbers .ensures) (c .push5 .ensures)
+returns c = rw (
+  puts-field,
+  puts-field,
+  puts-field,
+  puts-field,
+  puts-last,
+  ← c .before .before .before .before .before .before .before .before .before .before .before .before .before .id-of .ensures,
+  ← c .before .before .before .before .before .before .before .before .before .before .before .before .value-of .ensures,
+  ← c .before .before .before .before .before .before .before .before .before .before .before .kind-of .ensures,
+  ← c .before .before .before .before .before .before .before .before .before .before .type-of .ensures,
+  ← c .before .before .before .before .before .before .before .before .before .decimal .ensures,
+  ← c .before .before .before .before .before .before .before .before .push .ensures,
+  ← c .before .before .before .before .before .before .before .decimal2 .ensures,
+  ← c .before .before .before .before .before .before .push2 .ensures,
+  ← c .before .before .before .before .before .hex .ensures,
+  ← c .before .before .before .before .push3 .ensures,
+  ← c .before .before .before .name .ensures,
+  ← c .before .before .push4 .ensures,
+  ← c .before .numbers .ensures,
+) (c .push5 .ensures)
 
 pub fields-spec : {M : Type 1} → statement M
 fields-spec =

@@ -1,9 +1,7 @@
 -- `otlist::listing::line` meets its contract: the fields of an even word, and the one line for an odd one.
 -- Assumes nothing.
 use borrow.Author.Needs.{needs}
-use mathlib.Core.Path.{ap, _∙_}
-use Rattle.text.specs.Text.{puts}
-use Rattle.otlist.specs.Listing.{lineOf, fieldsOf}
+use Rattle.otlist.specs.Listing.{lineOf}
 use Rattle.otlist.proofs.listing.line.Statement.{statement}
 use Rattle.otlist.proofs.listing.line.Tie as tie
 

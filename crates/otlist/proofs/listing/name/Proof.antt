@@ -66,7 +66,13 @@ returns-6 : tie.Need-returns-6
 unfolding nameOf
 returns-6 c =
     let r = c .before .before .match .rest in
-    rw (ne-eqb _ _ (r .0 .0 .0 .0 .1), ne-eqb _ _ (r .0 .0 .0 .1), ne-eqb _ _ (r .0 .0 .1), ne-eqb _ _ (r .0 .1), ne-eqb _ _ (r .1)) (c .put6 .ensures)
+    rw (
+      ne-eqb _ _ (r .0 .0 .0 .0 .1),
+      ne-eqb _ _ (r .0 .0 .0 .1),
+      ne-eqb _ _ (r .0 .0 .1),
+      ne-eqb _ _ (r .0 .1),
+      ne-eqb _ _ (r .1),
+    ) (c .put6 .ensures)
 
 pub name-spec : {M : Type 1} → statement M
 name-spec =

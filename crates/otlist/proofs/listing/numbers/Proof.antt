@@ -1,9 +1,7 @@
 -- `otlist::listing::numbers` meets its contract: each kind's number, or two.
 -- Assumes nothing.
 use borrow.Author.Needs.{needs}
-use mathlib.Core.Path.{sym, ap, _∙_}
 use borrow.Author.Tests.{ne-eqb}
-use Rattle.text.specs.Text.{puts, pushed}
 use Rattle.text.proofs.Puts.{puts-field}
 use Rattle.otlist.specs.Listing.{numbersOf}
 use Rattle.otlist.proofs.listing.numbers.Statement.{statement}

@@ -2,7 +2,6 @@
 -- Assumes nothing.
 use borrow.Author.Needs.{needs}
 use Prim.Native.Nat.{_-_}
-use mathlib.Core.Path.{_≡_, refl}
 use lib.ListN.{length}
 use Rattle.otreplay.proofs.parse.last_word.Statement.{statement}
 use Rattle.otreplay.proofs.parse.last_word.Tie as tie

@@ -1,12 +1,12 @@
 -- `values::real::real_back` meets its contract: equal bits are the same float, and the guess is right wherever there is a number to find.
 -- Assumes nothing.
 use borrow.Author.Needs.{needs}
-use mathlib.Core.Path.{_≡_, refl, sym, ap, _∙_}
-use Prim.Native.Nat.{ℕ, _<_}
+use mathlib.Core.Path.{_≡_, sym, ap, _∙_}
 use native.Mathlib.Omega.{arith}
 use lib.Ieee.{binary32, toBits}
-use Rattle.values.specs.declared.Back.the-variants.{Bits, Refused}
-use Rattle.values.specs.Real.{realOf, negative, sized, BackOf}
+use Rattle.word.proofs.Clash.{clash}
+use Rattle.values.specs.declared.Back.the-variants.{Bits}
+use Rattle.values.specs.Real.{realOf, negative, sized}
 use Rattle.values.proofs.Exact.{real-exact}
 use Rattle.values.proofs.Floats.{not-nan, same-not-nan, same-self, bits-apart}
 use Rattle.values.proofs.real.real_back.Statement.{statement}
@@ -31,13 +31,17 @@ returns c =
     let g = c .before .before .guess .result in
     let x = c .before .before .before .before .args .x in
     let same : x ≡ realOf g = sym (bits-apart (c .before .real-of .result) x (c .before .real-of .ok) (c .before .before .before .before .good .0 .1) (c .if2 .taken)) ∙ c .before .real-of .ensures in
-    record { given = λ raw h e. ap Bits (c .before .before .guess .ensures raw h e); found = λ raw e. let i : g ≡ raw = cc in (omega arith, same ∙ ap realOf i); number = λ n e. let z : _≡_ {A = ℕ} 0 1 = cc in omega arith }
+    record {
+      given = λ raw h e. ap Bits (c .before .before .guess .ensures raw h e);
+      found = λ raw e. let i : g ≡ raw = cc in (omega arith, same ∙ ap realOf i);
+      number = λ n e. clash cc;
+    }
 
 returns-2 : tie.Need-returns-2
 returns-2 c =
     record {
       given = λ raw h e. absurd (c .if2 .left (ap (toBits binary32) (c .before .real-of .ensures ∙ ap realOf (c .before .before .guess .ensures raw h e) ∙ sym e)));
-      found = λ raw e. let z : _≡_ {A = ℕ} 0 1 = cc in (omega arith, absurd (let no : ⊥ = omega arith in no));
+      found = λ raw e. clash cc;
       number = λ n e. cc;
     }
 
@@ -45,7 +49,7 @@ returns-3 : tie.Need-returns-3
 returns-3 c =
     record {
       given = λ raw h e. cc (same-self (realOf raw) (negative raw) (sized raw) 256 (real-exact raw h), c .if1 .left);
-      found = λ raw e. let z : _≡_ {A = ℕ} 0 1 = cc in (omega arith, absurd (let no : ⊥ = omega arith in no));
+      found = λ raw e. clash cc;
       number = λ n e. cc;
     }
 

@@ -1,7 +1,6 @@
 -- `values::real::whole` meets its contract.
 -- Assumes nothing.
-use borrow.Author.Needs.{needs}
-use mathlib.Core.Path.{_≡_, sym, ap, _∙_, subst}
+use mathlib.Core.Path.{sym, ap, _∙_, subst}
 use lib.Dec.{T}
 use lib.Ieee.{ofBits, neg, toUnsigned}
 use Rattle.values.proofs.Floats.{whole-above, whole-under, whole-back}

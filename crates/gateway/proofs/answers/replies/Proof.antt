@@ -1,9 +1,9 @@
--- `gateway::Gateway::replies` meets its contract.
+-- `gateway::answers::replies` meets its contract.
 -- Assumes nothing.
 use Rattle.gateway.specs.Entries.{replied}
 use borrow.Author.Needs.{needs}
-use Rattle.gateway.proofs.Gateway.replies.Statement.{statement}
-use Rattle.gateway.proofs.Gateway.replies.Tie as tie
+use Rattle.gateway.proofs.answers.replies.Statement.{statement}
+use Rattle.gateway.proofs.answers.replies.Tie as tie
 
 write-requires : tie.Need-write-requires
 write-requires c κs = search needs
