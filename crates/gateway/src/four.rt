@@ -5,7 +5,6 @@ use crate::Outs;
 use line::Line;
 use line::Said;
 use line::Step;
-use line::idle::idle;
 ghost use mathlib.Core.Path.{_≡_};
 ghost use Rattle.gateway.specs.Idle.{allIdle};
 ghost use Rattle.gateway.specs.Four.{insideOf, lineOf, putOf, ticksOf, saidOf, linesOf, outOf, outsOf};
@@ -70,16 +69,16 @@ pub(crate) fn all_idle(lines: Lines) -> bool
     let two = lines.two;
     let three = lines.three;
     let four = lines.four;
-    if !idle(one) {
+    if !one.idle() {
         return false;
     }
-    if !idle(two) {
+    if !two.idle() {
         return false;
     }
-    if !idle(three) {
+    if !three.idle() {
         return false;
     }
-    idle(four)
+    four.idle()
 }
 
 pub(crate) fn tick_all(lines: Lines) -> Steps

@@ -12,8 +12,8 @@ use Rattle.line.proofs.Line.boiler.Reads as boiler-reads
 use Rattle.line.proofs.Line.boiler.Kinds as boiler-kinds
 use Rattle.line.proofs.Line.order.Reads as order-reads
 use Rattle.line.proofs.Line.order.Kinds as order-kinds
-use Rattle.line.proofs.idle.idle.Reads as idle-reads
-use Rattle.line.proofs.idle.idle.Kinds as idle-kinds
+use Rattle.line.proofs.Line.idle.Reads as idle-reads
+use Rattle.line.proofs.Line.idle.Kinds as idle-kinds
 
 pub fresh-one : One fresh-kinds.ps fresh-kinds.r fresh-reads.Post
 fresh-one κs a u v x y p q = p ∙ sym q

@@ -1,33 +1,21 @@
 // One OpenTherm line: who talks, who waits, and for how long (01, 'A line and its turns').
 mod ages;
 mod ends;
-pub mod idle;
 mod start;
+mod turns;
 
 use ages::aged;
-use ages::older;
-use ends::answered;
-use ends::silence;
-use idle::idle;
-use start::start;
+use turns::heard;
+use turns::refused;
+use turns::rests;
+use turns::talks;
+use turns::under_way;
 use word::Frame;
 use word::even;
-use word::matches;
 use word::type_of;
 ghost use mathlib.Core.Path.{_≡_};
-ghost use Rattle.line.specs.Turns.{
-  freshLine,
-  turned as turnedOf,
-  refusal,
-  restsOf,
-  talksOf,
-  heardOf,
-  underWay,
-  tickOf,
-  thermostatOf,
-  boilerOf,
-  orderOf,
-};
+ghost use Rattle.line.specs.Idle.{idleOf};
+ghost use Rattle.line.specs.Turns.{freshLine, tickOf, thermostatOf, boilerOf, orderOf};
 
 pub enum Talker {
     Thermostat,
@@ -114,7 +102,7 @@ impl Line {
     pub fn tick(mut self) -> Step
         ensures { λ r. ⌜ r ≡ tickOf self ⌝ }
     {
-        if idle(self) {
+        if self.idle() {
             return Step {
                 line: self,
                 said: Said::Quiet,
@@ -130,9 +118,31 @@ impl Line {
         self = aged(self);
         let turn = self.turn;
         match turn {
-            Turn::Rest(rest) => self.rests(rest),
-            Turn::Talk(owner, sent, age, since) => self.talks(owner, sent, age, since),
+            Turn::Rest(rest) => rests(self, rest),
+            Turn::Talk(owner, sent, age, since) => talks(self, owner, sent, age, since),
         }
+    }
+
+    // Whether the line has nothing to do: its ticks change nothing, so a box that rests costs little, and a caller may pass them over.
+    pub fn idle(self) -> bool
+        ensures { λ r. ⌜ r ≡ idleOf self ⌝ }
+    {
+        let turn = self.turn;
+        let held = self.held;
+        let order = self.order;
+        let Turn::Rest(rest) = turn else {
+            return false;
+        };
+        if rest != Line::REST {
+            return false;
+        }
+        if let Slot::Full(_, _) = held {
+            return false;
+        }
+        if let Order::Waits(_, _) = order {
+            return false;
+        }
+        true
     }
 
     pub fn thermostat(mut self, frame: Frame) -> Step
@@ -140,10 +150,10 @@ impl Line {
     {
         let word = frame.word;
         if !even(word) {
-            return self.refused(5);
+            return refused(self, 5);
         }
         if 2 < type_of(word) {
-            return self.refused(6);
+            return refused(self, 6);
         }
         let turn = self.turn;
         let order = self.order;
@@ -165,18 +175,18 @@ impl Line {
     {
         let word = frame.word;
         if !even(word) {
-            return self.refused(5);
+            return refused(self, 5);
         }
         if type_of(word) < 4 {
-            return self.refused(6);
+            return refused(self, 6);
         }
-        self.heard(frame)
+        heard(self, frame)
     }
 
     pub fn order(mut self, question: Question) -> Step
         ensures { λ r. ⌜ r ≡ orderOf self question ⌝ }
     {
-        if self.under_way() {
+        if under_way(self) {
             return Step {
                 line: self,
                 said: Said::Busy,
@@ -194,96 +204,6 @@ impl Line {
         Step {
             line: self,
             said: Said::Taken,
-        }
-    }
-
-    fn turned(self, turn: Turn) -> Line
-        ensures { λ r. ⌜ r ≡ turnedOf self turn ⌝ }
-    {
-        let held = self.held;
-        let order = self.order;
-        let last = self.last;
-        Line {
-            turn: turn,
-            held: held,
-            order: order,
-            last: last,
-        }
-    }
-
-    fn refused(self, number: u8) -> Step
-        ensures { λ r. ⌜ r ≡ refusal self number ⌝ }
-    {
-        Step {
-            line: self,
-            said: Said::Refused(number),
-        }
-    }
-
-    // A tick of rest: the line rests on, or a talk starts.
-    fn rests(self, rest: u16) -> Step
-        ensures { λ r. ⌜ r ≡ restsOf self rest ⌝ }
-    {
-        let rested = older(rest);
-        if rested < Line::REST {
-            return Step {
-                line: self.turned(Turn::Rest(rested)),
-                said: Said::Quiet,
-            };
-        }
-        let ready = self.turned(Turn::Rest(Line::REST));
-        start(ready)
-    }
-
-    // A boiler frame of even parity and type 4 to 7.
-    fn heard(self, frame: Frame) -> Step
-        ensures { λ r. ⌜ r ≡ heardOf self frame ⌝ }
-    {
-        let turn = self.turn;
-        let Turn::Talk(owner, sent, age, since) = turn else {
-            return self.refused(7);
-        };
-        if age < Line::EARLIEST {
-            return self.refused(7);
-        }
-        if Line::LATEST < age {
-            return self.refused(7);
-        }
-        if !matches(sent.word, frame.word) {
-            return self.refused(8);
-        }
-        answered(self, owner, since, frame)
-    }
-
-    // A tick of a talk: it goes on, or has lasted too long.
-    fn talks(self, owner: Talker, sent: Frame, age: u16, since: u16) -> Step
-        ensures { λ r. ⌜ r ≡ talksOf self owner sent age since ⌝ }
-    {
-        let lasted = older(age);
-        if lasted < Line::SILENCE {
-            return Step {
-                line: self.turned(Turn::Talk(owner, sent, lasted, since)),
-                said: Said::Quiet,
-            };
-        }
-        silence(self, owner, since)
-    }
-
-    // Whether an order is under way: it waits, or its own frame is out.
-    fn under_way(self) -> bool
-        ensures { λ r. ⌜ r ≡ underWay self ⌝ }
-    {
-        let turn = self.turn;
-        let order = self.order;
-        if let Order::Waits(_, _) = order {
-            return true;
-        }
-        match turn {
-            Turn::Rest(_) => false,
-            Turn::Talk(owner, _, _, _) => match owner {
-                Talker::Thermostat => false,
-                Talker::Modbus => true,
-            },
         }
     }
 }
