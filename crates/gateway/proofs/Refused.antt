@@ -2,24 +2,23 @@
 -- Assumes nothing.
 use Prim.Native.Nat.{ℕ, _≤_, _<_}
 use mathlib.Core.Path.{_≡_, refl, sym, ap, _∙_}
-use mathlib.Core.Bool.{Bool, true, false, cond, not, _&&_}
+use mathlib.Core.Bool.{Bool, true, false, not}
 use mathlib.Core.List.{List, []}
 use native.Mathlib.Omega.{arith}
 use lib.Dec.{leb}
-use borrow.Author.Tests.{leb-true, leb-false, lt-leb}
+use borrow.Author.Tests.{leb-true, leb-false}
 use Rattle.word.proofs.Clash.{clash}
 use Rattle.word.specs.declared.Frame.{Frame}
-use Rattle.word.specs.Frame.{evenOf, typeOf, matchesOf}
+use Rattle.word.specs.Frame.{evenOf}
 use Rattle.word.proofs.Parity.{flip-parity}
 use Rattle.line.specs.declared.Line.{Line}
 use Rattle.line.specs.declared.Said.{Said}
 use Rattle.line.specs.declared.Said.the-variants as said
 use Rattle.line.specs.declared.Step.{Step}
-use Rattle.line.specs.declared.Talker.{Talker}
-use Rattle.line.specs.declared.Talker.the-variants.{Thermostat, Modbus}
-use Rattle.line.specs.declared.Turn.{Turn}
-use Rattle.line.specs.declared.Turn.the-variants.{Rest, Talk}
 use Rattle.line.specs.Turns as turns
+use Rattle.line.specs.Events as line
+use Rattle.line.proofs.Happens.{happens, refused-stays}
+use Rattle.line.proofs.Refusals as refusals
 use Rattle.gateway.specs.declared.Gateway.{Gateway}
 use Rattle.gateway.specs.declared.Lines.{Lines}
 use Rattle.gateway.specs.declared.Moved.{Moved}
@@ -42,47 +41,7 @@ use Rattle.gateway.proofs.Sight.{none-out}
 use Rattle.gateway.proofs.Projection.{boiler-told}
 use Rattle.gateway.proofs.Cases.{Case, refuses, ticks, from-thermostat, from-boiler, replies, takes, case-of}
 
--- ---- a line that refuses stays
-
-abbrev Same : Line → Step → Type 0
-Same l s = (n : ℕ) → s .said ≡ said.Refused n → s .line ≡ l
-
-by : (b : Bool) (l : Line) (x y : Step) → Same l x → Same l y → Same l (cond b x y)
-by true l x y p q = p
-by false l x y p q = q
-
-refused-same : (l : Line) (n : ℕ) → Same l (turns.refusal l n)
-unfolding turns.refusal
-refused-same l n m e = refl
-
-thermostat-same : (l : Line) (f : Frame) → Same l (turns.thermostatOf l f)
-unfolding turns.thermostatOf
-thermostat-same l f =
-    by (evenOf (f .word)) l _ (turns.refusal l 5)
-    (by (leb (typeOf (f .word)) 2) l (turns.says _ said.Held) (turns.refusal l 6) (λ n e. clash cc) (refused-same l 6)) (refused-same l 5)
-
-ends-same : (l : Line) (o : Talker) (u : ℕ) (f : Frame) → Same l (turns.answeredOf l o u f)
-unfolding turns.answeredOf
-ends-same l Modbus u f n e = clash cc
-ends-same l Thermostat u f n e = go (turns.passesOf l u) e
-  where
-    go : (b : Bool) → cond b (said.Passed f) said.Dropped ≡ said.Refused n → turns.endedOf l Thermostat ≡ l
-    go true e = clash cc
-    go false e = clash cc
-
-turn-same : (l : Line) (f : Frame) (t : Turn) → Same l (turns.heardIn l f t)
-turn-same l f (Rest r) = refused-same l 7
-turn-same l f (Talk o q a u) =
-    by (leb 84 a && leb a 874) l _ (turns.refusal l 7)
-    (by (matchesOf (q .word) (f .word)) l (turns.answeredOf l o u f) (turns.refusal l 8) (ends-same l o u f) (refused-same l 8)) (refused-same l 7)
-
-boiler-same : (l : Line) (f : Frame) → Same l (turns.boilerOf l f)
-unfolding turns.boilerOf turns.heardOf
-boiler-same l f =
-    by (evenOf (f .word)) l _ (turns.refusal l 5)
-    (by (leb 4 (typeOf (f .word))) l (turns.heardOf l f) (turns.refusal l 6) (turn-same l f (l .turn)) (refused-same l 6)) (refused-same l 5)
-
--- ---- so does the box
+-- ---- what is refused stays
 
 put-same : (ls : Lines) {k : ℕ} → Four k → putOf ls k (lineOf ls k) ≡ ls
 unfolding putOf lineOf
@@ -116,9 +75,9 @@ kept (refuses m) n e = (refl, refl)
 kept (ticks m s Open) n e = clash cc
 kept (ticks m s (Came r w)) n e = clash cc
 kept {g} (from-thermostat {l} f mine) n e =
-    let s = turns.thermostatOf (lineOf (g .lines) l) f in (with-line g mine s (thermostat-same (lineOf (g .lines) l) f n (plain-refused (s .said) n e)), refl)
+    let s = turns.thermostatOf (lineOf (g .lines) l) f in (with-line g mine s (refused-stays (happens (lineOf (g .lines) l) (line.thermostat f)) n (plain-refused (s .said) n e)), refl)
 kept {g} (from-boiler {l} f m mine Open) n e =
-    let s = boilerStep g l f in (with-line g mine s (boiler-same (lineOf (g .lines) l) f n (plain-refused (s .said) n e)), refl)
+    let s = boilerStep g l f in (with-line g mine s (refused-stays (happens (lineOf (g .lines) l) (line.boiler f)) n (plain-refused (s .said) n e)), refl)
 kept (from-boiler f m mine (Came r w)) n e = clash cc
 kept (replies r) n e = clash cc
 kept (takes o) n e = clash cc
@@ -162,13 +121,14 @@ module _ (g : Gateway) where
       go (told.Refused n) e l = stays g x n e
 
   -- what is told of a frame on a line of the box
-  to-thermostat : (l : ℕ) (f : Frame) (n : ℕ) → Four l → turns.thermostatOf (lineOf (g .lines) l) f .said ≡ said.Refused n → Refuses g (thermostat l f) n
-  unfolding plainOf
-  to-thermostat l f n mine e = refuses-with g (thermostat l f) n (ap (λ (m : Moved). m .told) (thermostat-yes g l f (here mine)) ∙ ap plainOf e)
+  -- what its line refuses, the box refuses
+  to-thermostat : (l : ℕ) (f : Frame) (n : ℕ) → Four l → turns.thermostatOf (lineOf (g .lines) l) f ≡ turns.refusal (lineOf (g .lines) l) n → Refuses g (thermostat l f) n
+  unfolding plainOf turns.refusal
+  to-thermostat l f n mine e = refuses-with g (thermostat l f) n (ap (λ (m : Moved). m .told) (thermostat-yes g l f (here mine)) ∙ ap (λ (s : Step). plainOf (s .said)) e)
 
-  to-boiler : (l : ℕ) (f : Frame) (room n : ℕ) → 16 ≤ room → Four l → turns.boilerOf (lineOf (g .lines) l) f .said ≡ said.Refused n → Refuses g (boiler l f room) n
-  unfolding plainOf settledOf
-  to-boiler l f room n h mine e = refuses-with g (boiler l f room) n (boiler-told g mine f room h (said.Refused n) e (λ o. refl))
+  to-boiler : (l : ℕ) (f : Frame) (room n : ℕ) → 16 ≤ room → Four l → turns.boilerOf (lineOf (g .lines) l) f ≡ turns.refusal (lineOf (g .lines) l) n → Refuses g (boiler l f room) n
+  unfolding plainOf settledOf turns.refusal
+  to-boiler l f room n h mine e = refuses-with g (boiler l f room) n (boiler-told g mine f room h (said.Refused n) (ap (λ (s : Step). s .said) e) (λ o. refl))
 
   outside : (l : ℕ) → (Four l → ⊥) → insideOf l ≡ false
   outside l off = go (insideOf l) refl
@@ -176,23 +136,6 @@ module _ (g : Gateway) where
       go : (b : Bool) → insideOf l ≡ b → b ≡ false
       go true e = absurd (off (inside-four l e))
       go false e = refl
-
-module _ (l : Line) (f : Frame) where
-  thermostat-5 : evenOf (f .word) ≡ false → turns.thermostatOf l f .said ≡ said.Refused 5
-  unfolding turns.thermostatOf turns.refusal
-  thermostat-5 e = rw e
-
-  thermostat-6 : evenOf (f .word) ≡ true → 2 < typeOf (f .word) → turns.thermostatOf l f .said ≡ said.Refused 6
-  unfolding turns.thermostatOf turns.refusal
-  thermostat-6 e h = rw (e, lt-leb (typeOf (f .word)) 2 h)
-
-  boiler-5 : evenOf (f .word) ≡ false → turns.boilerOf l f .said ≡ said.Refused 5
-  unfolding turns.boilerOf turns.refusal
-  boiler-5 e = rw e
-
-  boiler-6 : evenOf (f .word) ≡ true → typeOf (f .word) < 4 → turns.boilerOf l f .said ≡ said.Refused 6
-  unfolding turns.boilerOf turns.refusal
-  boiler-6 e h = rw (e, lt-leb 4 (typeOf (f .word)) h)
 
 -- a bit flipped turns even into odd
 odd : (f : Frame) (k : ℕ) → evenOf (f .word) ≡ true → evenOf (flipped k f .word) ≡ false
@@ -206,10 +149,10 @@ demand1 g = record {
   small-message = λ b room h. refuses-with g (message b room) 15 (ap (λ (d : Does Moved). d .result .told) (message-15 g b room h));
   line-thermostat = λ l f off. refuses-with g (thermostat l f) 9 (ap (λ (m : Moved). m .told) (thermostat-9 g l f (outside g l off)));
   line-boiler = λ l f room h off. refuses-with g (boiler l f room) 9 (ap (λ (d : Does Moved). d .result .told) (boiler-9 g l f room h (outside g l off)));
-  parity-thermostat = λ l f mine e. to-thermostat g l f 5 mine (thermostat-5 (lineOf (g .lines) l) f e);
-  parity-boiler = λ l f room h mine e. to-boiler g l f room 5 h mine (boiler-5 (lineOf (g .lines) l) f e);
-  type-thermostat = λ l f mine e t. to-thermostat g l f 6 mine (thermostat-6 (lineOf (g .lines) l) f e t);
-  type-boiler = λ l f room h mine e t. to-boiler g l f room 6 h mine (boiler-6 (lineOf (g .lines) l) f e t);
-  flip-thermostat = λ l f k mine e. to-thermostat g l (flipped k f) 5 mine (thermostat-5 (lineOf (g .lines) l) (flipped k f) (odd f k e));
-  flip-boiler = λ l f k room h mine e. to-boiler g l (flipped k f) room 5 h mine (boiler-5 (lineOf (g .lines) l) (flipped k f) (odd f k e));
+  parity-thermostat = λ l f mine e. to-thermostat g l f 5 mine (refusals.odd-thermostat (lineOf (g .lines) l) f e);
+  parity-boiler = λ l f room h mine e. to-boiler g l f room 5 h mine (refusals.odd-boiler (lineOf (g .lines) l) f e);
+  type-thermostat = λ l f mine e t. to-thermostat g l f 6 mine (refusals.type-thermostat (lineOf (g .lines) l) f e t);
+  type-boiler = λ l f room h mine e t. to-boiler g l f room 6 h mine (refusals.type-boiler (lineOf (g .lines) l) f e t);
+  flip-thermostat = λ l f k mine e. to-thermostat g l (flipped k f) 5 mine (refusals.odd-thermostat (lineOf (g .lines) l) (flipped k f) (odd f k e));
+  flip-boiler = λ l f k room h mine e. to-boiler g l (flipped k f) room 5 h mine (refusals.odd-boiler (lineOf (g .lines) l) (flipped k f) (odd f k e));
 }
