@@ -8,8 +8,6 @@ use lib.Dec.{leb}
 use lib.ListN.{length}
 use borrow.Author.Tests.{leb-true, leb-false}
 use Rattle.word.specs.declared.Frame.{Frame}
-use Rattle.line.specs.declared.Said.{Said}
-use Rattle.line.specs.declared.Said.the-variants as said
 use Rattle.modbus.specs.declared.Order.{Order}
 use Rattle.modbus.specs.declared.Reading.{Reading}
 use Rattle.modbus.specs.declared.Reading.the-variants as reading
@@ -33,6 +31,7 @@ use Rattle.gateway.specs.Inputs.{Input, tick, thermostat, boiler, messag
 use Rattle.gateway.specs.History.{next, giftOf}
 use Rattle.gateway.proofs.Laws.{tick-15, tick-yes, thermostat-9, thermostat-yes, boiler-15, boiler-9, boiler-yes, message-15, message-yes, asks-free, asks-busy}
 use Rattle.gateway.proofs.Units.{inside-four}
+use Rattle.gateway.proofs.Effect.{plain-aside}
 
 -- the box after the input, what is told, and what is written
 pub data Case (g : Gateway) : Input → Gateway → Told → List ℕ → Type 0 where
@@ -89,19 +88,6 @@ module _ (g : Gateway) where
 
 -- ---- so many bytes are written as are told
 
-plain-none : (s : Said) → numbersOf (plainOf s) .bytes ≡ 0
-unfolding plainOf
-plain-none said.Quiet = refl
-plain-none (said.Sent t f) = refl
-plain-none (said.Answer f n) = refl
-plain-none (said.NoAnswer n) = refl
-plain-none (said.Passed f) = refl
-plain-none said.Dropped = refl
-plain-none said.Held = refl
-plain-none said.Taken = refl
-plain-none said.Busy = refl
-plain-none (said.Refused n) = refl
-
 tells-written : (e : Settled) (t : Told) → numbersOf t .bytes ≡ 0 → length (writesOf e) ≡ numbersOf (tellOf e t) .bytes
 unfolding writesOf tellOf
 tells-written Open t z = sym z
@@ -110,8 +96,8 @@ tells-written (Came r n) t z = refl
 counts : {g : Gateway} {x : Input} {g′ : Gateway} {t : Told} {w : List ℕ} → Case g x g′ t w → length w ≡ numbersOf t .bytes
 counts (refuses n) = refl
 counts (ticks n s e) = tells-written e told.Quiet refl
-counts {g} (from-thermostat {l} f in-four) = sym (plain-none (thermostatStep g l f .said))
-counts {g} (from-boiler {l} f n in-four e) = tells-written e (plainOf (boilerStep g l f .said)) (plain-none (boilerStep g l f .said))
+counts {g} (from-thermostat {l} f in-four) = sym (plain-aside (thermostatStep g l f .said) .1)
+counts {g} (from-boiler {l} f n in-four e) = tells-written e (plainOf (boilerStep g l f .said)) (plain-aside (boilerStep g l f .said) .1)
 counts (replies r) = refl
 counts (takes o) = refl
 

@@ -24,7 +24,7 @@ use Rattle.gateway.specs.declared.Told.the-variants as told
 use Rattle.gateway.specs.declared.settle.Settled.the-variants.{Open, Came}
 use Rattle.gateway.specs.Four.{lineOf}
 use Rattle.gateway.specs.Settle.{settledOf, plainOf}
-use Rattle.gateway.specs.Inputs.{Input, thermostat}
+use Rattle.gateway.specs.Inputs.{Input, numbersOf}
 use Rattle.gateway.specs.History.{next, giftOf}
 use Rattle.gateway.specs.Demand3.{Asks}
 use Rattle.gateway.specs.Projection.{taken}
@@ -65,18 +65,19 @@ pub data Effect (g : Gateway) (i : Input) : Type 0 where
 
 -- ---- what a line says to frames
 
-pub plain-aside : (s : Said) → concerns (plainOf s) ≡ 0
+-- what is told of a frame is no order's, and comes with no reply
+pub plain-aside : (s : Said) → (concerns (plainOf s) ≡ 0) × (numbersOf (plainOf s) .bytes ≡ 0)
 unfolding plainOf
-plain-aside said.Quiet = refl
-plain-aside (said.Sent t f) = refl
-plain-aside (said.Answer f n) = refl
-plain-aside (said.NoAnswer n) = refl
-plain-aside (said.Passed f) = refl
-plain-aside said.Dropped = refl
-plain-aside said.Held = refl
-plain-aside said.Taken = refl
-plain-aside said.Busy = refl
-plain-aside (said.Refused n) = refl
+plain-aside said.Quiet = (refl, refl)
+plain-aside (said.Sent t f) = (refl, refl)
+plain-aside (said.Answer f n) = (refl, refl)
+plain-aside (said.NoAnswer n) = (refl, refl)
+plain-aside (said.Passed f) = (refl, refl)
+plain-aside said.Dropped = (refl, refl)
+plain-aside said.Held = (refl, refl)
+plain-aside said.Taken = (refl, refl)
+plain-aside said.Busy = (refl, refl)
+plain-aside (said.Refused n) = (refl, refl)
 
 -- a thermostat frame settles nothing
 pub thermostat-open : (o : Order) (l : Line) (f : Frame) → settledOf o (turns.thermostatOf l f .said) ≡ Open

@@ -38,7 +38,7 @@ module _ (ls : Lines) (l : ℕ) (f : Frame) (n : ℕ) where
   unfolding stillOf tellOf
   quiet a h i q s =
       stays (ap (λ (d : Does Moved). d .result .gateway .asked) (moved a h i Open q))
-      (ap (λ (d : Does Moved). concerns (d .result .told)) (moved a h i Open q) ∙ plain-aside (turns.boilerOf (lineOf ls l) f .said)) s
+      (ap (λ (d : Does Moved). concerns (d .result .told)) (moved a h i Open q) ∙ plain-aside (turns.boilerOf (lineOf ls l) f .said) .0) s
 
   -- what the order's line sees of it
   seen-by : (a : Asked) (k : ℕ) (p q : Bool) → leb 16 n ≡ p → eqb l k ≡ q →

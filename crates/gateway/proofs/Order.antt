@@ -75,7 +75,7 @@ module _ (ls : Lines) where
       go : (b : Bool) → insideOf l ≡ b → Effect (box ls a) (thermostat l f)
       go true e =
           let law = thermostat-yes (box ls a) l f e in
-          stays (ap (λ (m : Moved). m .gateway .asked) law) (ap (λ (m : Moved). concerns (m .told)) law ∙ plain-aside (turns.thermostatOf (lineOf ls l) f .said))
+          stays (ap (λ (m : Moved). m .gateway .asked) law) (ap (λ (m : Moved). concerns (m .told)) law ∙ plain-aside (turns.thermostatOf (lineOf ls l) f .said) .0)
           (unheard ls a (thermostat l f) (λ o is. seen o (eqb l (o .line))))
       go false e =
           let law = thermostat-9 (box ls a) l f e in
