@@ -55,7 +55,8 @@ module _ (g : Gateway) where
   of-tick n true e = subst⁻¹ (OfTick n) (tick-yes g n (leb-true 16 n e)) (ticks n (ticksOf (g .lines)) (afterTick (g .asked) (ticksOf (g .lines))))
   of-tick n false e = subst⁻¹ (OfTick n) (tick-15 g n (leb-false 16 n e)) (refuses 15)
 
-  of-thermostat : (l : ℕ) (f : Frame) (b : Bool) → insideOf l ≡ b → Case g (thermostat l f) (next g (thermostat l f)) (giftOf g (thermostat l f) .told) []
+  of-thermostat : (l : ℕ) (f : Frame) (b : Bool) → insideOf l ≡ b →
+      Case g (thermostat l f) (next g (thermostat l f)) (giftOf g (thermostat l f) .told) []
   of-thermostat l f true e = subst⁻¹ (λ (m : Moved). Case g (thermostat l f) (m .gateway) (m .told) []) (thermostat-yes g l f e) (from-thermostat f (inside-four l e))
   of-thermostat l f false e = subst⁻¹ (λ (m : Moved). Case g (thermostat l f) (m .gateway) (m .told) []) (thermostat-9 g l f e) (refuses 9)
 

@@ -52,7 +52,8 @@ module _ (h : Inputs) where
   once i k m o x y =
       meet k m (λ l. y .only k _ _ (omega (arith, x .sending, x .later)) l (told-at i k o x .1)) (λ g. x .only m _ _ (omega (arith, y .sending, y .later)) g (told-at i m o y .1))
 
-  whose : (i j k : ℕ) (o p : Order) → Accepted h (given h) i o → Accepted h (given h) j p → Served h (given h) i o k → Served h (given h) j p k → i ≡ j
+  whose : (i j k : ℕ) (o p : Order) → Accepted h (given h) i o → Accepted h (given h) j p → Served h (given h) i o k → Served h (given h) j p k →
+      i ≡ j
   whose i j k o p a b x y =
       meet i j (λ l. x .alone j l (omega (arith, y .sending, y .later)) (b .taken)) (λ g. y .alone i g (omega (arith, x .sending, x .later)) (a .taken))
 

@@ -99,6 +99,7 @@ module _ (ls : Lines) where
   abbrev pub box : Asked → Gateway
   box a = record { lines = ls; asked = a }
 
-  pub unheard : (a : Asked) (i : Input) → ((o : Order) → a ≡ Waits o → settledOf o (doOf (lineOf ls (o .line)) (eventTo (box a) (o .line) i) .said) ≡ Open) → Unsettled (box a) i a
+  pub unheard : (a : Asked) (i : Input) →
+      ((o : Order) → a ≡ Waits o → settledOf o (doOf (lineOf ls (o .line)) (eventTo (box a) (o .line) i) .said) ≡ Open) → Unsettled (box a) i a
   unheard Nothing i e = tt
   unheard (Waits o) i e = e o refl

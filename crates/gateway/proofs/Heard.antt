@@ -30,11 +30,13 @@ module _ (ls : Lines) (l : ℕ) (f : Frame) (n : ℕ) where
   said-there : Said
   said-there = turns.boilerOf (lineOf ls l) f .said
 
-  moved : (a : Asked) → 16 ≤ n → insideOf l ≡ true → (e : Settled) → afterBoiler a l said-there ≡ e → boilerOf (box ls a) l f n ≡ movedOf (box ls a) l (boilerStep (box ls a) l f) e
+  moved : (a : Asked) → 16 ≤ n → insideOf l ≡ true → (e : Settled) → afterBoiler a l said-there ≡ e →
+      boilerOf (box ls a) l f n ≡ movedOf (box ls a) l (boilerStep (box ls a) l f) e
   unfolding said-there
   moved a h i e q = boiler-yes (box ls a) l f n h i ∙ ap (movedOf (box ls a) l (boilerStep (box ls a) l f)) q
 
-  quiet : (a : Asked) → 16 ≤ n → insideOf l ≡ true → afterBoiler a l said-there ≡ Open → Unsettled (box ls a) (boiler l f n) a → Effect (box ls a) (boiler l f n)
+  quiet : (a : Asked) → 16 ≤ n → insideOf l ≡ true → afterBoiler a l said-there ≡ Open → Unsettled (box ls a) (boiler l f n) a →
+      Effect (box ls a) (boiler l f n)
   unfolding stillOf tellOf
   quiet a h i q s =
       stays (ap (λ (d : Does Moved). d .result .gateway .asked) (moved a h i Open q))
@@ -47,10 +49,12 @@ module _ (ls : Lines) (l : ℕ) (f : Frame) (n : ℕ) where
       ap (λ (b : Bool). doOf (lineOf ls k) (cond b (cond (eqb l k) (line.boiler f) line.pass) line.pass) .said) ep
       ∙ ap (λ (b : Bool). doOf (lineOf ls k) (cond p (cond b (line.boiler f) line.pass) line.pass) .said) eq
 
-  turned-away : (a : Asked) (x : ℕ) → boilerOf (box ls a) l f n ≡ gives (refusal (box ls a) x) [] → Unsettled (box ls a) (boiler l f n) a → Effect (box ls a) (boiler l f n)
+  turned-away : (a : Asked) (x : ℕ) → boilerOf (box ls a) l f n ≡ gives (refusal (box ls a) x) [] → Unsettled (box ls a) (boiler l f n) a →
+      Effect (box ls a) (boiler l f n)
   turned-away a x law s = stays (ap (λ (d : Does Moved). d .result .gateway .asked) law) (ap (λ (d : Does Moved). concerns (d .result .told)) law) s
 
-  own : (o : Order) → 16 ≤ n → insideOf l ≡ true → leb 16 n ≡ true → o .line ≡ l → (e : Settled) → settledOf o said-there ≡ e → Effect (box ls (Waits o)) (boiler l f n)
+  own : (o : Order) → 16 ≤ n → insideOf l ≡ true → leb 16 n ≡ true → o .line ≡ l → (e : Settled) → settledOf o said-there ≡ e →
+      Effect (box ls (Waits o)) (boiler l f n)
   unfolding afterBoiler stillOf tellOf writesOf said-there
   own o h i room is e q = go e q
     where
@@ -69,13 +73,15 @@ module _ (ls : Lines) (l : ℕ) (f : Frame) (n : ℕ) where
           finishes o r w refl (ap (λ (d : Does Moved). d .result .gateway .asked) law) (told-it (Came r w) q)
           (ap (λ (d : Does Moved). d .result .told) law) (ap (λ (d : Does Moved). d .wrote) law)
 
-  other : (o : Order) → 16 ≤ n → insideOf l ≡ true → leb 16 n ≡ true → eqb (o .line) l ≡ false → eqb l (o .line) ≡ false → Effect (box ls (Waits o)) (boiler l f n)
+  other : (o : Order) → 16 ≤ n → insideOf l ≡ true → leb 16 n ≡ true → eqb (o .line) l ≡ false → eqb l (o .line) ≡ false →
+      Effect (box ls (Waits o)) (boiler l f n)
   unfolding afterBoiler
   other o h i room off off′ =
       quiet (Waits o) h i (ap (λ (b : Bool). cond b (settledOf o said-there) Open) off)
       (ap (settledOf o) (seen-by (Waits o) (o .line) true false room off′) ∙ pass-open o (lineOf ls (o .line)))
 
-  pub boiler-case : (a : Asked) → ((o : Order) → a ≡ Waits o → Four (o .line)) → (p q : Bool) → leb 16 n ≡ p → insideOf l ≡ q → Effect (box ls a) (boiler l f n)
+  pub boiler-case : (a : Asked) → ((o : Order) → a ≡ Waits o → Four (o .line)) → (p q : Bool) → leb 16 n ≡ p → insideOf l ≡ q →
+      Effect (box ls a) (boiler l f n)
   unfolding afterBoiler
   boiler-case a named false q ep eq =
       turned-away a 15 (boiler-15 (box ls a) l f n (leb-false 16 n ep))

@@ -43,7 +43,8 @@ module _ (ls : Lines) where
   ticked : (a : Asked) (n : ℕ) → 16 ≤ n → (e : Settled) → afterTick a (ticksOf ls) ≡ e → tickOf (box ls a) n ≡ tickedOf (box ls a) (ticksOf ls) e
   ticked a n h e q = tick-yes (box ls a) n h ∙ ap (tickedOf (box ls a) (ticksOf ls)) q
 
-  tick-own : (o : Order) (n : ℕ) → 16 ≤ n → (e : Settled) → afterTick (Waits o) (ticksOf ls) ≡ e → settledOf o (saidTo (box ls (Waits o)) (o .line) (tick n)) ≡ e →
+  tick-own : (o : Order) (n : ℕ) → 16 ≤ n → (e : Settled) → afterTick (Waits o) (ticksOf ls) ≡ e →
+      settledOf o (saidTo (box ls (Waits o)) (o .line) (tick n)) ≡ e →
       Effect (box ls (Waits o)) (tick n)
   unfolding stillOf tellOf writesOf
   tick-own o n h Open q s = stays (ap (λ (d : Does Ticked). d .result .gateway .asked) (ticked (Waits o) n h Open q)) (ap (λ (d : Does Ticked). concerns (d .result .told)) (ticked (Waits o) n h Open q)) s
@@ -89,7 +90,8 @@ module _ (ls : Lines) where
     order-open o l (reading.AtOnce r) t z = pass-open o l
     order-open o l (reading.Accepted p) t z = ap (λ (x : Bool). settledOf o (doOf l (cond (x && eqb (p .line) (o .line)) (line.order (questionOf p)) line.pass) .said)) (untaken t z) ∙ pass-open o l
 
-    kept : (a : Asked) (d : Does Moved) → messageOf (box ls a) b n ≡ d → d .result .gateway .asked ≡ a → concerns (d .result .told) ≡ 0 → Effect (box ls a) (message b n)
+    kept : (a : Asked) (d : Does Moved) → messageOf (box ls a) b n ≡ d → d .result .gateway .asked ≡ a → concerns (d .result .told) ≡ 0 →
+        Effect (box ls a) (message b n)
     kept a d law same z =
         let aside : concerns (messageOf (box ls a) b n .result .told) ≡ 0 = ap (λ (d : Does Moved). concerns (d .result .told)) law ∙ z in
         stays (ap (λ (d : Does Moved). d .result .gateway .asked) law ∙ same) aside

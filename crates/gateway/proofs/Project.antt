@@ -123,7 +123,8 @@ module _ (g : Gateway) {k : ℕ} (f : Four k) where
   step-asks o Nothing e = rw (asks-free g o e) (put-event (g .lines) (o .line) (line.order (questionOf o)) f)
   step-asks o (Waits p) e = rw (asks-busy g o p e)
 
-  step-read : (r : Reading) → lineOf (readOf g r .result .gateway .lines) k ≡ doOf (lineOf (g .lines) k) (orderOn k r (readOf g r .result .told)) .line
+  step-read : (r : Reading) →
+      lineOf (readOf g r .result .gateway .lines) k ≡ doOf (lineOf (g .lines) k) (orderOn k r (readOf g r .result .told)) .line
   unfolding readOf replied
   step-read (reading.Silent n) = refl
   step-read (reading.AtOnce r) = refl

@@ -54,7 +54,8 @@ module _ (g : Gateway) {k : ℕ} (four : Four k) (f : Frame) where
       go true = u o
       go false = refl
 
-  pub boiler-told : (n : ℕ) → 16 ≤ n → (s : Said) → turns.boilerOf (lineOf (g .lines) k) f .said ≡ s → ((o : Order) → settledOf o s ≡ Open) → giftOf g (boiler k f n) .told ≡ plainOf s
+  pub boiler-told : (n : ℕ) → 16 ≤ n → (s : Said) → turns.boilerOf (lineOf (g .lines) k) f .said ≡ s → ((o : Order) → settledOf o s ≡ Open) →
+      giftOf g (boiler k f n) .told ≡ plainOf s
   unfolding tellOf
   boiler-told n h s e u =
       ap (λ (d : Does Moved). d .result .told) (boiler-yes g k f n h (here four))
@@ -98,19 +99,22 @@ module _ (h : Inputs) {k : ℕ} (four : Four k) (n : ℕ) where
   plainly : (x : Input) → h n ≡ x → (s : Said) → giftOf (boxAt h n) x .told ≡ plainOf s → given h n .told ≡ plainOf s
   plainly x is s e = ap (λ (i : Input). giftOf (boxAt h n) i .told) is ∙ e
 
-  from-unit : {e : Event} (f : Frame) → Seen k (h n) e → e ≡ line.thermostat f → (s : Said) → doOf (lineOf (boxAt h n .lines) k) e .said ≡ s → given h n .told ≡ plainOf s
+  from-unit : {e : Event} (f : Frame) → Seen k (h n) e → e ≡ line.thermostat f → (s : Said) → doOf (lineOf (boxAt h n .lines) k) e .said ≡ s →
+      given h n .told ≡ plainOf s
   from-unit f sn ee s es =
       plainly (thermostat k f) (thermostat-of sn f ee) s
       (thermostat-told (boxAt h n) four f ∙ ap (λ (e : Event). plainOf (doOf (lineOf (boxAt h n .lines) k) e .said)) (sym ee) ∙ ap plainOf es)
 
-  from-below : {e : Event} (f : Frame) → Seen k (h n) e → e ≡ line.boiler f → (s : Said) → doOf (lineOf (boxAt h n .lines) k) e .said ≡ s → ((o : Order) → settledOf o s ≡ Open) →
+  from-below : {e : Event} (f : Frame) → Seen k (h n) e → e ≡ line.boiler f → (s : Said) → doOf (lineOf (boxAt h n .lines) k) e .said ≡ s →
+      ((o : Order) → settledOf o s ≡ Open) →
       given h n .told ≡ plainOf s
   from-below f sn ee s es op =
       let x = boiler-of sn f ee in
       plainly (boiler k f (x .room)) (x .is) s
       (boiler-told (boxAt h n) four f (x .room) (x .enough) s (ap (λ (e : Event). doOf (lineOf (boxAt h n .lines) k) e .said) (sym ee) ∙ es) op)
 
-  spoken : {e : Event} {s : Said} → Speech e s → Seen k (h n) e → E h k n ≡ e → doOf (lineOf (boxAt h n .lines) k) e .said ≡ s → saidTo (boxAt h n) k (h n) ≡ s →
+  spoken : {e : Event} {s : Said} → Speech e s → Seen k (h n) e → E h k n ≡ e → doOf (lineOf (boxAt h n .lines) k) e .said ≡ s →
+      saidTo (boxAt h n) k (h n) ≡ s →
       Says (noteOf s) (length (given h n .wrote)) (given h n .told)
   unfolding plainOf settledOf
   spoken none sn ee es is = tt

@@ -122,11 +122,13 @@ module _ (g : Gateway) where
 
   -- what is told of a frame on a line of the box
   -- what its line refuses, the box refuses
-  to-thermostat : (l : ℕ) (f : Frame) (n : ℕ) → Four l → turns.thermostatOf (lineOf (g .lines) l) f ≡ turns.refusal (lineOf (g .lines) l) n → Refuses g (thermostat l f) n
+  to-thermostat : (l : ℕ) (f : Frame) (n : ℕ) → Four l → turns.thermostatOf (lineOf (g .lines) l) f ≡ turns.refusal (lineOf (g .lines) l) n →
+      Refuses g (thermostat l f) n
   unfolding plainOf turns.refusal
   to-thermostat l f n mine e = refuses-with g (thermostat l f) n (ap (λ (m : Moved). m .told) (thermostat-yes g l f (here mine)) ∙ ap (λ (s : Step). plainOf (s .said)) e)
 
-  to-boiler : (l : ℕ) (f : Frame) (room n : ℕ) → 16 ≤ room → Four l → turns.boilerOf (lineOf (g .lines) l) f ≡ turns.refusal (lineOf (g .lines) l) n → Refuses g (boiler l f room) n
+  to-boiler : (l : ℕ) (f : Frame) (room n : ℕ) → 16 ≤ room → Four l →
+      turns.boilerOf (lineOf (g .lines) l) f ≡ turns.refusal (lineOf (g .lines) l) n → Refuses g (boiler l f room) n
   unfolding plainOf settledOf turns.refusal
   to-boiler l f room n h mine e = refuses-with g (boiler l f room) n (boiler-told g mine f room h (said.Refused n) (ap (λ (s : Step). s .said) e) (λ o. refl))
 

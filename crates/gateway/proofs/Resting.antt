@@ -31,7 +31,8 @@ stay ls = record {
   four = says (ls .four) said.Quiet;
 }
 
-all-stay : (ls : Lines) → idleOf (ls .one) ≡ true → idleOf (ls .two) ≡ true → idleOf (ls .three) ≡ true → idleOf (ls .four) ≡ true → ticksOf ls ≡ stay ls
+all-stay : (ls : Lines) → idleOf (ls .one) ≡ true → idleOf (ls .two) ≡ true → idleOf (ls .three) ≡ true → idleOf (ls .four) ≡ true →
+    ticksOf ls ≡ stay ls
 unfolding ticksOf
 all-stay ls a b c d = rw (idle-tick (ls .one) a, idle-tick (ls .two) b, idle-tick (ls .three) c, idle-tick (ls .four) d)
 

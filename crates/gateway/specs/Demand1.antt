@@ -43,7 +43,8 @@ pub record Demand1 (g : Gateway) : Type 0 where
   pub parity-boiler : (l : ℕ) (f : Frame) (room : ℕ) → 16 ≤ room → Four l → evenOf (f .word) ≡ false → Refuses g (boiler l f room) 5
   -- 6: "thermostat type not 0-2, boiler type not 4-7"
   pub type-thermostat : (l : ℕ) (f : Frame) → Four l → evenOf (f .word) ≡ true → 2 < typeOf (f .word) → Refuses g (thermostat l f) 6
-  pub type-boiler : (l : ℕ) (f : Frame) (room : ℕ) → 16 ≤ room → Four l → evenOf (f .word) ≡ true → typeOf (f .word) < 4 → Refuses g (boiler l f room) 6
+  pub type-boiler : (l : ℕ) (f : Frame) (room : ℕ) → 16 ≤ room → Four l → evenOf (f .word) ≡ true → typeOf (f .word) < 4 →
+      Refuses g (boiler l f room) 6
   -- the flip: at both entries that take a frame, for each bit k
   pub flip-thermostat : (l : ℕ) (f : Frame) (k : ℕ) → Four l → evenOf (f .word) ≡ true → Refuses g (thermostat l (flipped k f)) 5
   pub flip-boiler : (l : ℕ) (f : Frame) (k room : ℕ) → 16 ≤ room → Four l → evenOf (f .word) ≡ true → Refuses g (boiler l (flipped k f) room) 5

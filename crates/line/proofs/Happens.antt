@@ -78,7 +78,8 @@ pub data Happens : Line → Event → Step → Type 0 where
       Happens (line (Talk Modbus q a u) h o x) (boiler f) (says (line (Rest 0) h Nothing Modbus) (Answer f u))
   relay-answered : (q : Frame) (a u : ℕ) (o : Order) (x : Talker) (f : Frame) → matchesOf (q .word) (f .word) ≡ true → 84 ≤ a → a ≤ 874 → u ≤ 800 →
       Happens (line (Talk Thermostat q a u) Empty o x) (boiler f) (says (line (Rest 0) Empty o Thermostat) (Passed f))
-  relay-lost : (q : Frame) (a u : ℕ) (h : Slot) (o : Order) (x : Talker) (f : Frame) → matchesOf (q .word) (f .word) ≡ true → 84 ≤ a → a ≤ 874 → Lost h u →
+  relay-lost : (q : Frame) (a u : ℕ) (h : Slot) (o : Order) (x : Talker) (f : Frame) → matchesOf (q .word) (f .word) ≡ true → 84 ≤ a → a ≤ 874 →
+      Lost h u →
       Happens (line (Talk Thermostat q a u) h o x) (boiler f) (says (line (Rest 0) h o Thermostat) Dropped)
   boiler-refused : (l : Line) (f : Frame) (n : ℕ) → Unanswered (boiler f) (l .turn) → Happens l (boiler f) (says l (Refused n))
   -- an order
@@ -158,7 +159,8 @@ at-turn (Rest r) h o x f = boiler-refused _ f 7 tt
 at-turn (Talk t q a u) h o x f = at-age t q a u h o x f (leb earliest a) (leb a latest) (matchesOf (q .word) (f .word)) refl refl refl
 
 -- a frame of odd parity, or of another type than 4 to 7, matches nothing
-at-boiler : (l : Line) (f : Frame) (p q : Bool) → evenOf (f .word) ≡ p → leb 4 (typeOf (f .word)) ≡ q → Happens l (boiler f) (must p l 5 (must q l 6 (heardOf l f)))
+at-boiler : (l : Line) (f : Frame) (p q : Bool) → evenOf (f .word) ≡ p → leb 4 (typeOf (f .word)) ≡ q →
+    Happens l (boiler f) (must p l 5 (must q l 6 (heardOf l f)))
 unfolding refusal
 at-boiler l f true true ep eq = at-turn (l .turn) (l .held) (l .order) (l .last) f
 at-boiler l f true false ep eq = boiler-refused l f 6 (no-match (l .turn))

@@ -66,7 +66,8 @@ module _ (B : ℕ) (fits : B < 65535) (Own : Owns) (h : Events) (s : Notes) wher
     progress i w acc zero lt = absurd (omega arith)
     progress i w acc (suc n) lt = go (last-or i n lt) (progress i w acc n)
       where
-        go : (i < n) ⊎ (i ≡ n) → (i < n → Stage B fits Own h s i w n (lf n) ⊎ Done i w n) → Stage B fits Own h s i w (suc n) (lf (suc n)) ⊎ Done i w (suc n)
+        go : (i < n) ⊎ (i ≡ n) → (i < n → Stage B fits Own h s i w n (lf n) ⊎ Done i w n) →
+            Stage B fits Own h s i w (suc n) (lf (suc n)) ⊎ Done i w (suc n)
         go (inl old) before =
             ⊎-elim
             (λ o. ⊎-elim (λ t. inl t) (λ e. inr (n, omega arith, e)) (next B fits Own h s i w n old (mv n) o))

@@ -32,7 +32,8 @@ resting Modbus = refl
 no : false ≡ true → ⊥
 no e = clash cc
 
-cases : (t : Turn) (h : Slot) (o : Order) (x : Talker) → (rested t && (noneHeld h && not (waits o))) ≡ true → tickOf (line t h o x) ≡ says (line t h o x) Quiet
+cases : (t : Turn) (h : Slot) (o : Order) (x : Talker) → (rested t && (noneHeld h && not (waits o))) ≡ true →
+    tickOf (line t h o x) ≡ says (line t h o x) Quiet
 cases (Talk own f a u) h o x e = absurd (no e)
 cases (Rest r) (Full f u) o x e = absurd (no (both (eqb r full-rest) false e .1))
 cases (Rest r) Empty (Waits w u) x e = absurd (no (both (eqb r full-rest) false e .1))

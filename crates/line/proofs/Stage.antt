@@ -105,7 +105,8 @@ module _ (B : ℕ) (fits : B < 65535) (Own : Owns) (h : Events) (s : Notes) wher
           alone = more s accepts i n (o .alone) (λ on. omega arith);
         }
 
-    next-talk : (q : Frame) (a u a′ u′ : ℕ) → Other (s n) → (a < 875 → a′ ≡ a + beat (h n)) → (u < 65535 → u′ ≡ u + beat (h n)) → (a < 875 → a′ < 875) →
+    next-talk : (q : Frame) (a u a′ u′ : ℕ) → Other (s n) → (a < 875 → a′ ≡ a + beat (h n)) → (u < 65535 → u′ ≡ u + beat (h n)) →
+        (a < 875 → a′ < 875) →
         Deaf (h n) q a → Talking i w n q a u → Talking i w (suc n) q a′ u′
     next-talk q a u a′ u′ c ea eu es d o =
         let cl = clock-suc h n in
@@ -142,7 +143,8 @@ module _ (B : ℕ) (fits : B < 65535) (Own : Owns) (h : Events) (s : Notes) wher
       alone = o .alone;
     }
 
-    next-over : (q : Frame) (a u u′ : ℕ) → h n ≡ tick → s n ≡ no-answer u′ → (u < 65535 → u′ ≡ u + 1) → 874 ≤ a → Talking i w n q a u → Served B Own h s i w n
+    next-over : (q : Frame) (a u u′ : ℕ) → h n ≡ tick → s n ≡ no-answer u′ → (u < 65535 → u′ ≡ u + 1) → 874 ≤ a → Talking i w n q a u →
+        Served B Own h s i w n
     next-over q a u u′ et es eu ge o =
         let cl = clock-suc h n in
         let eb : beat (h n) ≡ 1 = ap beat et in
@@ -168,7 +170,8 @@ module _ (B : ℕ) (fits : B < 65535) (Own : Owns) (h : Events) (s : Notes) wher
     next (hear q a u b et es ma lo hi) o = inr (next-answer q a u b et es ma lo hi o)
 
   -- while a talk of Modbus goes on, its own frame is the only one
-  own-only : (i : ℕ) (w : Question) (n : ℕ) (q : Frame) (a u : ℕ) (o : Talking i w n q a u) (j : ℕ) (p : Frame) → i < j → j < n → s j ≡ sent Modbus p → (j ≡ o .j) × (p ≡ q)
+  own-only : (i : ℕ) (w : Question) (n : ℕ) (q : Frame) (a u : ℕ) (o : Talking i w n q a u) (j : ℕ) (p : Frame) → i < j → j < n →
+      s j ≡ sent Modbus p → (j ≡ o .j) × (p ≡ q)
   own-only i w n q a u o j p lo up e =
       let is : j ≡ o .j = meet j (o .j) (λ l. o .before-own j lo l (ap about e)) (λ l. o .after-own j l up (ap about e)) in
       let e′ : s (o .j) ≡ sent Modbus p = rw is at e in

@@ -40,7 +40,8 @@ module _ (w : Question) (b : Frame) (m : matchesOf (w .word) (b .word) ≡ true)
   out : ℕ → ℕ → Line
   out a u = record { turn = Talk Modbus (record { word = w .word }) a u; held = Empty; order = Nothing; last = Modbus }
 
-  at : (a u : ℕ) (n : Note) → noteOf (must (leb earliest a && leb a latest) (out a u) 7 (answeredOf (out a u) Modbus u b) .said) ≡ n → noteOf (boilerOf (out a u) b .said) ≡ n
+  at : (a u : ℕ) (n : Note) → noteOf (must (leb earliest a && leb a latest) (out a u) 7 (answeredOf (out a u) Modbus u b) .said) ≡ n →
+      noteOf (boilerOf (out a u) b .said) ≡ n
   unfolding out
   at a u n e = rw (judged Modbus (record { word = w .word }) a u b m) e
 
@@ -61,7 +62,8 @@ unfolding thermostatOf
 kept l f ev ty = rw (ev, le-leb (typeOf (f .word)) 2 ty)
 
 -- "an order taken at rest 0 after a Modbus talk, thermostat frame held, silent boiler: outcome at tick 1,950"
-pub p12 : (v w : Question) (f : Frame) → evenOf (f .word) ≡ true → typeOf (f .word) ≤ 2 → noteOf (tickOf (ticked 1949 (crowded v w f)) .said) ≡ no-answer 1950
+pub p12 : (v w : Question) (f : Frame) → evenOf (f .word) ≡ true → typeOf (f .word) ≤ 2 →
+    noteOf (tickOf (ticked 1949 (crowded v w f)) .said) ≡ no-answer 1950
 unfolding crowded ticked orderOf underWay tickOf lineOlder turnOlder heldOlder orderOlder restsOf startOf waitingOf wordOf sendsOf after talksOf silenceOf endedOf
 p12 v w f ev ty = ap (λ (l : Line). noteOf (tickOf (ticked 1949 l) .said)) (kept (orderOf (ticked 975 (orderOf freshLine v .line)) w .line) f ev ty)
 
@@ -97,7 +99,8 @@ reached : notes slowest 1951 ≡ no-answer 1950
 unfolding slowest saidAt lineAt orderOf underWay thermostatOf evenOf typeOf ones tickOf lineOlder turnOlder heldOlder orderOlder restsOf startOf waitingOf wordOf sendsOf after talksOf silenceOf endedOf
 reached = refl
 
-wait-of : (i j k : ℕ) (q : Frame) (n : ℕ) → notes slowest k ≡ no-answer n → Ending slowest (notes slowest) j q k (ticks slowest i k) → ticks slowest i k ≡ n
+wait-of : (i j k : ℕ) (q : Frame) (n : ℕ) → notes slowest k ≡ no-answer n → Ending slowest (notes slowest) j q k (ticks slowest i k) →
+    ticks slowest i k ≡ n
 wait-of i j k q n r (answered b an s) = clash cc
 wait-of i j k q n r (silent t n′ s) = cc
 

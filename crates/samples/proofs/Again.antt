@@ -19,7 +19,8 @@ pub again : (r : Reader) (s : ℕ) → Answered r s → stepOf r s .reader ≡ f
 again = every (λ x. (x .answer ≡ Nothing → ⊥) → x .reader ≡ freshOf) (λ p h. absurd (h refl)) (λ w h. refl) (λ n g l h. refl)
 
 -- so two readers that have just answered, whatever came before, answer alike from then on
-pub forgotten : (r q : Reader) (s t : ℕ) → Answered r s → Answered q t → (l : List ℕ) → answersOf (stepOf r s .reader) l ≡ answersOf (stepOf q t .reader) l
+pub forgotten : (r q : Reader) (s t : ℕ) → Answered r s → Answered q t → (l : List ℕ) →
+    answersOf (stepOf r s .reader) l ≡ answersOf (stepOf q t .reader) l
 forgotten r q s t h g l = ap (λ (x : Reader). answersOf x l) (again r s h ∙ sym (again q t g))
 
 -- what is written is read, also by a reader that has just answered

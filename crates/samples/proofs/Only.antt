@@ -44,7 +44,8 @@ module _ (h b : List ℕ) (s : ℕ) (l : List Stretch) (hs : (8 ≤ s) × (s ≤
   abbrev Grows : Stretch → ℕ → Stretch → Type 0
   Grows t x u = legSamples c t ++ (x ∷ []) ≡ legSamples c u
 
-  further : (t : Stretch) (x : ℕ) (u : Stretch) → h ≡ b ++ (lineOf 0 s l ++ legSamples c t) → Grows t x u → h ++ (x ∷ []) ≡ b ++ (lineOf 0 s l ++ legSamples c u)
+  further : (t : Stretch) (x : ℕ) (u : Stretch) → h ≡ b ++ (lineOf 0 s l ++ legSamples c t) → Grows t x u →
+      h ++ (x ∷ []) ≡ b ++ (lineOf 0 s l ++ legSamples c u)
   further t x u e f =
       behind h b (lineOf 0 s l ++ legSamples c t) (lineOf 0 s l ++ legSamples c u) x e
       (append-assoc (lineOf 0 s l) (legSamples c t) (x ∷ []) ∙ ap (λ (y : List ℕ). lineOf 0 s l ++ y) f)

@@ -13,7 +13,8 @@ module _ (w : ℕ) (room : List ℕ) where
   pub small-room : length room < 680 → (numberOf (writtenOf room) ≡ 15) × (roomAfter w room ≡ room)
   small-room h = (simp (lt-ltb (length room) 680 h), simp (lt-ltb (length room) 680 h))
 
-  pub large-room : 680 ≤ length room → (numberOf (writtenOf room) ≡ 0) × (take 680 (roomAfter w room) ≡ samplesOf w) × (drop 680 (roomAfter w room) ≡ drop 680 room)
+  pub large-room : 680 ≤ length room →
+      (numberOf (writtenOf room) ≡ 0) × (take 680 (roomAfter w room) ≡ samplesOf w) × (drop 680 (roomAfter w room) ≡ drop 680 room)
   large-room h =
       let big = le-ltb (length room) 680 h in
       let n = length-samples w in

@@ -49,7 +49,8 @@ unfolding answersOf afterOf
 one s e = record { silent = ap (λ x. x .answer ∷ []) e; ends = ap (λ x. x .reader) e }
 
 -- a quiet run, and then a sample that gives an answer: the reader is fresh again
-pub ending : {r q : Reader} {a : List ℕ} (s : ℕ) (x : Answer) → Quiet r a q → stepOf q s ≡ gives x → answersOf r (a ++ (s ∷ [])) ≡ none (length a) ++ (x ∷ [])
+pub ending : {r q : Reader} {a : List ℕ} (s : ℕ) (x : Answer) → Quiet r a q → stepOf q s ≡ gives x →
+    answersOf r (a ++ (s ∷ [])) ≡ none (length a) ++ (x ∷ [])
 unfolding answersOf
 ending {r} {q} {a} s x h e = then-answers (s ∷ []) h ∙ ap (λ y. none (length a) ++ (y .answer ∷ [])) e
 

@@ -104,7 +104,8 @@ not-not true = refl
 not-not false = refl
 
 -- the middle edge at the end of a stretch
-pub leg-edge : (k w : ℕ) (a : Bool) (t : Stretch) → Allowed t → stepOf (legEnd k w a t) (levelOf (turned a t)) ≡ middleOf (afterLeg k w a t) (turned a t)
+pub leg-edge : (k w : ℕ) (a : Bool) (t : Stretch) → Allowed t →
+    stepOf (legEnd k w a t) (levelOf (turned a t)) ≡ middleOf (afterLeg k w a t) (turned a t)
 leg-edge k w a (plain d) h = at-middle k w (d - 1) a false (omega arith) (omega arith)
 leg-edge k w a (crossed e d) h =
     subst (λ (b : Bool). stepOf (mid k w (d - 1) (not a) true) (levelOf b) ≡ middleOf (md k w (d - 1) (not a) true) b) (not-not a)
@@ -197,7 +198,8 @@ pub all-allowed : (l r : List Stretch) → AllAllowed l → AllAllowed r → All
 all-allowed [] r hl hr = hr
 all-allowed (t ∷ l) r hl hr = (hl .0, all-allowed l r (hl .1) hr)
 
-stretches-last : (a : Bool) (l : List Stretch) (t : Stretch) → stretchesSamples a (l ++ (t ∷ [])) ≡ stretchesSamples a l ++ stretchSamples (levelAfter a l) t
+stretches-last : (a : Bool) (l : List Stretch) (t : Stretch) →
+    stretchesSamples a (l ++ (t ∷ [])) ≡ stretchesSamples a l ++ stretchSamples (levelAfter a l) t
 stretches-last a [] t = append-nil (stretchSamples a t)
 stretches-last a (x ∷ l) t =
     ap (λ (y : List ℕ). stretchSamples a x ++ y) (stretches-last (turned a x) l t)

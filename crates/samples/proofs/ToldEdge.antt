@@ -17,7 +17,8 @@ use Rattle.samples.proofs.Cases.{next-bit, stop-rises, stop-falls}
 use Rattle.samples.proofs.Stretches.{level-last, all-allowed, mid, legSamples, afterLeg, legEnd, leg-last, leg-edge, shift, shiftedBy, word-after, line-last}
 use Rattle.samples.proofs.Told.{follows, Next, goes, refuses, ends, behind}
 
-shifted-last : (w : ℕ) (a : Bool) (l : List Stretch) (t : Stretch) → shiftedBy w a (l ++ (t ∷ [])) ≡ shift (shiftedBy w a l) (turned (levelAfter a l) t)
+shifted-last : (w : ℕ) (a : Bool) (l : List Stretch) (t : Stretch) →
+    shiftedBy w a (l ++ (t ∷ [])) ≡ shift (shiftedBy w a l) (turned (levelAfter a l) t)
 shifted-last w a [] t = refl
 shifted-last w a (u ∷ l) t = shifted-last (shift w (turned a u)) (turned a u) l t
 

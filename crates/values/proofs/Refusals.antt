@@ -15,7 +15,8 @@ use Rattle.values.proofs.Exact.{lt-or-ge}
 use Rattle.values.proofs.Floats.{value-pos, value-neg}
 use Rattle.values.proofs.Trip.{none-refused}
 
-refuse : (x : Float) → ((raw : ℕ) → raw < 0x8000 → HasValue x false raw 256 → ⊥) → ((n : ℕ) → 0 < n → HasValue x true n 256 → ⊥) → (r : Back) → BackOf x r → r ≡ Refused 10
+refuse : (x : Float) → ((raw : ℕ) → raw < 0x8000 → HasValue x false raw 256 → ⊥) → ((n : ℕ) → 0 < n → HasValue x true n 256 → ⊥) → (r : Back) →
+    BackOf x r → r ≡ Refused 10
 refuse x f g r b =
     none-refused x r b
     (λ raw h e.
