@@ -1,0 +1,120 @@
+//! Frames of a script: the thermostat's, a boiler's answer that fits, and one that is wrong somewhere.
+
+use super::{End, Plan, Script, ENDS, LONGEST_WAITS};
+use crate::line::{Owner, State};
+use crate::word;
+
+impl Script {
+    pub(super) fn thermostat(&mut self) {
+        let lines: Vec<u64> = (0..4)
+            .flat_map(|place| vec![place as u64 + 1; self.chatty[place] as usize])
+            .collect();
+        if lines.is_empty() {
+            return;
+        }
+        let mut line = self.random.pick(&lines);
+        let mut kind = self.random.below(3) as u32;
+        let odd = self.random.percent(8);
+        if self.random.percent(6) {
+            line = self.random.pick(&[0, 5, 6, 128, 255]);
+        }
+        if self.random.percent(8) {
+            kind = self.random.between(3, 7) as u32;
+        }
+        let value = u32::from(self.random.word() as u16);
+        let mut frame = kind << 28 | u32::from(self.id()) << 16 | value | self.spare();
+        if self.random.percent(20) {
+            // The word of a talk once more: later is later, though nothing in it is new.
+            let place = (line as usize).clamp(1, 4) - 1;
+            frame = self.talked(place).unwrap_or(frame);
+        }
+        let frame = word::with_even_parity(frame) ^ u32::from(odd) << 31;
+        self.frame("thermostat", line, frame);
+    }
+
+    /// The word talked on a line, if it talks.
+    pub(super) fn talked(&self, place: usize) -> Option<u32> {
+        match self.model.gateway.lines[place].state {
+            State::Talks { item, .. } => Some(item.word),
+            State::Rests(_) => None,
+        }
+    }
+
+    /// A frame that answers the question and comes to this end.
+    pub(super) fn answer(&mut self, question: u32, end: End) -> u32 {
+        let kind = match (end, word::type_of(question)) {
+            (End::Acknowledged, word::READ_DATA) => word::READ_ACK,
+            (End::Acknowledged, word::WRITE_DATA) => word::WRITE_ACK,
+            (End::Unknown, _) => word::UNKNOWN_DATAID,
+            _ => word::DATA_INVALID,
+        };
+        let value = self.random.word() as u16;
+        let frame = word::build(kind, word::id_of(question), value).expect("a type up to 7");
+        word::with_even_parity(frame | self.spare())
+    }
+
+    /// A frame that matches the line's talk, whatever its age; nothing where it rests.
+    pub(super) fn shoot(&mut self, place: usize) {
+        let Some(question) = self.talked(place) else {
+            return;
+        };
+        let owner = self.model.gateway.lines[place].last;
+        let end = match (owner, self.plan) {
+            (Owner::Modbus, Some(plan)) => plan.end,
+            _ => self.random.pick(&ENDS[..3]),
+        };
+        if end == End::Silent {
+            return;
+        }
+        let frame = self.answer(question, end);
+        self.frame("boiler", place as u64 + 1, frame);
+        let spent = self.longest_waits >= LONGEST_WAITS;
+        if owner == Owner::Modbus && !spent && self.random.percent(3) {
+            self.longest_wait();
+        }
+    }
+
+    /// A boiler frame on any line, at a moment nobody chose.
+    pub(super) fn boiler(&mut self) {
+        let place = self.random.below(4) as usize;
+        if self.random.percent(12) {
+            self.shoot(place);
+        } else {
+            self.wrong_frame(place);
+        }
+    }
+
+    /// A boiler frame with something wrong, or with two things wrong at once.
+    pub(super) fn wrong_frame(&mut self, place: usize) {
+        let question = self.talked(place).unwrap_or(u32::from(self.id()) << 16);
+        let good = self.answer(question, End::Acknowledged);
+        let wrong_kind = good ^ self.random.pick(&[0x1000_0000, 0x2000_0000, 0x3000_0000]);
+        let from_master = good & 0x3FFF_FFFF;
+        let other_id = good ^ 0x0001_0000 << self.random.below(8);
+        let frame = match self.random.below(8) {
+            0 | 7 => word::with_even_parity(wrong_kind),
+            1 => word::with_even_parity(other_id),
+            2 => good ^ 0x8000_0000,
+            3 => word::with_even_parity(from_master),
+            4 => word::with_even_parity(from_master) ^ 0x8000_0000,
+            5 => word::with_even_parity(self.random.word()),
+            _ => self.random.word(),
+        };
+        let silent = matches!(
+            self.plan,
+            Some(Plan {
+                end: End::Silent,
+                ..
+            })
+        );
+        if silent && word::matches(question, frame) {
+            return;
+        }
+        let line = match self.random.below(12) {
+            0 => self.random.pick(&[0, 5, 6, 128, 255]),
+            1 => self.random.between(1, 4),
+            _ => place as u64 + 1,
+        };
+        self.frame("boiler", line, frame);
+    }
+}
