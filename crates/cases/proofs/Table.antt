@@ -6,7 +6,7 @@ use lib.Ieee.{toBits, round}
 use Rattle.word.proofs.Worked.{built-is}
 use Rattle.values.specs.Real.{realOf}
 use Rattle.crc.proofs.Tried.{p8}
-use Rattle.line.proofs.Tried.{p9, p10, p12}
+use Rattle.turns.proofs.Tried.{p9, p10, p12}
 use Rattle.samples.proofs.Tried.{p11}
 use Rattle.cases.specs.Tried.{Tried}
 

@@ -12,10 +12,10 @@ use Rattle.word.specs.declared.Frame.{Frame}
 use Rattle.word.specs.Frame.{evenOf, typeOf, matchesOf, builtOf, read-data, write-data, unknown-dataid, data-invalid}
 use Rattle.values.specs.Real.{realOf}
 use Rattle.crc.specs.Crc.{sealed}
-use Rattle.line.specs.declared.Question.{Question}
-use Rattle.line.specs.Turns.{tickOf, boilerOf}
-use Rattle.line.specs.Events.{noteOf, answer, no-answer, refused}
-use Rattle.line.specs.Cases.{ticked, asking, crowded}
+use Rattle.turns.specs.declared.Question.{Question}
+use Rattle.turns.specs.Turns.{tickOf, boilerOf}
+use Rattle.turns.specs.Events.{noteOf, answer, no-answer, refused}
+use Rattle.turns.specs.Cases.{ticked, asking, crowded}
 use Rattle.samples.specs.Tried.{Gives, p11-cases}
 
 pub record Tried : Type 0 where
