@@ -6,8 +6,8 @@ use gateway::Moved;
 use gateway::Told;
 use libc::STDIN_FILENO;
 use print::print;
-use samples::Answer;
-use samples::Reader;
+use reader::Answer;
+use reader::Reader;
 use text::Text;
 use word::Frame;
 
@@ -40,7 +40,7 @@ fn fed(room: &[u8; 704], n: u32) -> u32 {
 // A frame with 24 idle samples before it, over and over.
 fn samples_of(n: u32) -> u32 {
     let mut room = [0u8; 704];
-    samples::write(0x8019_0000, &mut room[24..704]);
+    writer::write(0x8019_0000, &mut room[24..704]);
     fed(&room, n)
 }
 

@@ -1,5 +1,5 @@
 // The line of an answer at a sample's place.
-use samples::Answer;
+use reader::Answer;
 use text::Text;
 ghost use mathlib.Core.Path.{_≡_};
 ghost use Rattle.text.specs.Text.{emptyText, puts};

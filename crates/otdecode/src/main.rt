@@ -3,8 +3,8 @@
 mod line;
 
 use libc::STDIN_FILENO;
-use samples::Answer;
-use samples::Reader;
+use reader::Answer;
+use reader::Reader;
 
 // Where the reading stands, and whether there may be more to read.
 struct Place {

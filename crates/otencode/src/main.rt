@@ -7,7 +7,7 @@ ghost use Prim.Native.Nat.{_+_, _≤_};
 ghost use lib.ListN.{length};
 use libc::STDIN_FILENO;
 use libc::STDOUT_FILENO;
-use samples::FRAME_SAMPLES;
+use writer::FRAME_SAMPLES;
 
 const WORD: usize = 4;
 
@@ -29,7 +29,7 @@ fn add(word: u32, room: &mut [u8], used: usize) -> usize
     ensures { λ r. ⌜ r ≤ length (now (room .exit)) ⌝ }
 {
     let at = make_room(room, used);
-    samples::write(word, &mut room[at..]);
+    writer::write(word, &mut room[at..]);
     at + FRAME_SAMPLES
 }
 

@@ -6,8 +6,8 @@ use mathlib.Core.List.{List, _++_, _∷_}
 use Prim.Native.Nat.{ℕ, _+_, _^_, _≤_, _<_}
 use native.Mathlib.Omega.{arith}
 use lib.ListN.{replicate}
-use Rattle.samples.specs.declared.Reader.{Reader}
 use Rattle.samples.specs.declared.Answer.the-variants.{Nothing}
+use Rattle.samples.specs.Reader.{Reader}
 use Rattle.samples.specs.Answers.{numberOf, frame}
 use Rattle.samples.specs.Reading.{freshOf, stepOf}
 use Rattle.samples.specs.Run.{Answered, answersOf, none}

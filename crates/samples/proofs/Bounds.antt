@@ -6,8 +6,8 @@ use mathlib.Core.List.{List, [], _∷_, _++_, append-assoc}
 use Prim.Native.Nat.{ℕ, _+_, _-_, _≤_}
 use native.Mathlib.Omega.{arith}
 use lib.ListN.{length, length-append, replicate}
-use Rattle.samples.specs.declared.Reader.{Reader}
 use Rattle.samples.specs.declared.Answer.{Answer}
+use Rattle.samples.specs.Reader.{Reader}
 use Rattle.samples.specs.Answers.{early, late, frame}
 use Rattle.samples.specs.Reading.{freshOf, gives, stepOf}
 use Rattle.samples.specs.Run.{none, Last}

@@ -8,7 +8,7 @@ use borrow.Author.Tests.{lt-ltb, le-ltb, le-leb, lt-leb}
 use lib.Dec.{eqb}
 use Rattle.samples.specs.declared.Middle.{Middle}
 use Rattle.samples.specs.declared.Phase.the-variants.{Waiting, Start, Bits}
-use Rattle.samples.specs.declared.Reader.{Reader}
+use Rattle.samples.specs.Reader.{Reader}
 use Rattle.samples.specs.Answers.{early, late, no-stop, no-sample, frame}
 use Rattle.samples.specs.Reading.{gives, goesOn, waitedOf, startOf, pastEdge, fartherOf, bitOf, middleOf, nextOf, takenBy, stepOf}
 
@@ -102,11 +102,7 @@ module _ (r : Reader) (s : ℕ) where
   unfolding stepOf
   a-sample h = simp (lt-leb 2 s h)
 
--- the bit goes in below the word, whose highest bit goes out
+-- a bit is 0 or 1
 pub bit-small : (a : Bool) → bitOf a < 2
 bit-small true = omega arith
 bit-small false = omega arith
-
-pub shifted : (a : Bool) (w b : ℕ) → b ≡ bitOf a → w % 0x8000_0000 * 2 + b ≡ (w * 2 + bitOf a) % 2 ^ 32
-shifted true w b e = omega arith
-shifted false w b e = omega arith

@@ -1,12 +1,12 @@
 -- The laws of reading and writing samples, and the promises: ReadBack and Again (what is written is read; nothing older than the last
 -- answer is kept), Tolerant (errors don't add up), Only (nothing else is read), Bounds and Tried (P11 and the other bounds), Room (a
--- lent room), Determined (no contract leaves anything open).
+-- lent room). The code that keeps to the rules: the crates reader and writer.
 pub mod Cases
 pub mod Steps
 pub mod Runs
 pub mod Stretches
 pub mod Tolerant
-pub mod Places
+pub mod Lengths
 pub mod Room
 pub mod ReadBack
 pub mod Again
@@ -15,4 +15,3 @@ pub mod ToldEdge
 pub mod Only
 pub mod Bounds
 pub mod Tried
-pub mod Determined

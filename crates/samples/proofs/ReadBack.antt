@@ -7,14 +7,14 @@ use Prim.Native.Nat.{ℕ, zero, suc, _+_, _*_, _-_, _/_, _%_, _^_, _<_}
 use native.Mathlib.Nat.{pow-suc, div-one, div-div-eq-div-mul, mod-lt, zero-lt-suc}
 use native.Mathlib.Omega.{arith}
 use lib.ListN.{length, length-append, replicate}
-use Rattle.samples.specs.declared.Reader.{Reader}
 use Rattle.samples.specs.declared.Answer.{Answer}
+use Rattle.samples.specs.Reader.{Reader}
 use Rattle.samples.specs.Answers.{frame}
 use Rattle.samples.specs.Reading.{freshOf, waitedOf, stepOf}
 use Rattle.samples.specs.Run.{answersOf, afterOf, none}
 use Rattle.samples.specs.Edges.{levelOf, Stretch, plain, crossed, Allowed, AllAllowed, turned, levelAfter, stretchSamples, stretchesSamples, signalOf, lineOf, edgeBits, numberFrom}
 use Rattle.samples.specs.Written.{bitSamples, inSamples, bitsOf, samplesOf}
-use Rattle.samples.proofs.Places.{length-bits, length-samples}
+use Rattle.samples.proofs.Lengths.{length-bits, length-samples}
 use Rattle.samples.proofs.Runs.{answers-append}
 use Rattle.samples.proofs.Stretches.{level-last}
 use Rattle.samples.proofs.Tolerant.{tolerant, fresh-again}

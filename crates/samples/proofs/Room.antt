@@ -7,7 +7,7 @@ use borrow.Author.Tests.{lt-ltb, le-ltb}
 use lib.ListN.{length, take, drop}
 use lib.Seq.{take-at, drop-at}
 use Rattle.samples.specs.Written.{samplesOf, numberOf, writtenOf, roomAfter}
-use Rattle.samples.proofs.Places.{length-samples}
+use Rattle.samples.proofs.Lengths.{length-samples}
 
 module _ (w : ℕ) (room : List ℕ) where
   pub small-room : length room < 680 → (numberOf (writtenOf room) ≡ 15) × (roomAfter w room ≡ room)

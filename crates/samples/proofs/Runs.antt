@@ -4,9 +4,9 @@ use mathlib.Core.Path.{_≡_, refl, sym, ap, ap₂, _∙_}
 use mathlib.Core.List.{List, [], _∷_, _++_}
 use Prim.Native.Nat.{ℕ, _+_}
 use lib.ListN.{length, length-append, replicate-append-replicate}
-use Rattle.samples.specs.declared.Reader.{Reader}
 use Rattle.samples.specs.declared.Answer.{Answer}
 use Rattle.samples.specs.declared.Answer.the-variants.{Nothing}
+use Rattle.samples.specs.Reader.{Reader}
 use Rattle.samples.specs.Reading.{freshOf, gives, stepOf}
 use Rattle.samples.specs.Run.{answersOf, afterOf, none}
 

@@ -8,9 +8,8 @@ use lib.Dec.{leb, ltb, eqb}
 use Rattle.samples.specs.declared.Middle.{Middle}
 use Rattle.samples.specs.declared.Phase.{Phase}
 use Rattle.samples.specs.declared.Phase.the-variants.{Waiting, Start, Bits}
-use Rattle.samples.specs.declared.Reader.{Reader}
 use Rattle.samples.specs.declared.Answer.the-variants.{Refused}
-use Rattle.samples.specs.declared.Step.{Step}
+use Rattle.samples.specs.Reader.{Reader, Step}
 use Rattle.samples.specs.Answers.{frame}
 use Rattle.samples.specs.Reading.{goesOn, gives, within, startOf, middleOf, nextOf, takenBy, stepOf}
 

@@ -10,7 +10,7 @@ use lib.Pow.{pow-mono}
 use lib.ListN.{length, replicate, replicate-append-replicate}
 use Rattle.samples.specs.declared.Middle.{Middle}
 use Rattle.samples.specs.declared.Phase.the-variants.{Waiting, Start, Bits}
-use Rattle.samples.specs.declared.Reader.{Reader}
+use Rattle.samples.specs.Reader.{Reader}
 use Rattle.samples.specs.Answers.{early, late}
 use Rattle.samples.specs.Reading.{freshOf, gives, goesOn, bitOf, middleOf, nextOf, waitedOf, stepOf}
 use Rattle.samples.specs.Run.{answersOf, afterOf}

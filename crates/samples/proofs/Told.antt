@@ -11,10 +11,9 @@ use lib.ListN.{length, replicate, replicate-append-replicate}
 use Rattle.word.proofs.Clash.{clash}
 use Rattle.samples.specs.declared.Phase.{Phase}
 use Rattle.samples.specs.declared.Phase.the-variants.{Waiting, Start, Bits}
-use Rattle.samples.specs.declared.Reader.{Reader}
 use Rattle.samples.specs.declared.Answer.{Answer}
 use Rattle.samples.specs.declared.Answer.the-variants.{Nothing, Frame, Refused}
-use Rattle.samples.specs.declared.Step.{Step}
+use Rattle.samples.specs.Reader.{Reader, Step}
 use Rattle.samples.specs.Answers.{frame}
 use Rattle.samples.specs.Reading.{gives, goesOn, pastEdge, stepOf}
 use Rattle.samples.specs.Edges.{Stretch, plain, crossed, AllAllowed, levelAfter, lineOf, wordOf, Heard}

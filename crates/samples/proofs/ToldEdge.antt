@@ -9,7 +9,7 @@ use native.Mathlib.Omega.{arith}
 use lib.ListN.{length, length-append}
 use Rattle.samples.specs.declared.Phase.the-variants.{Bits}
 use Rattle.samples.specs.declared.Answer.the-variants.{Refused}
-use Rattle.samples.specs.declared.Step.{Step}
+use Rattle.samples.specs.Reader.{Step}
 use Rattle.samples.specs.Answers.{frame}
 use Rattle.samples.specs.Reading.{gives, goesOn, pastEdge, middleOf, stepOf}
 use Rattle.samples.specs.Edges.{levelOf, Stretch, plain, crossed, Allowed, AllAllowed, turned, levelAfter, lineOf, wordOf}

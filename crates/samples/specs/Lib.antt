@@ -1,5 +1,6 @@
 -- What a reader must believe of samples: Reading and Written are 01's rules, Run and Edges the words of the promises.
 pub mod Answers
+pub mod Reader
 pub mod Reading
 pub mod Run
 pub mod Written

@@ -7,10 +7,9 @@ use lib.Dec.{leb, ltb, eqb}
 use Rattle.samples.specs.declared.Middle.{Middle}
 use Rattle.samples.specs.declared.Phase.{Phase}
 use Rattle.samples.specs.declared.Phase.the-variants.{Waiting, Start, Bits}
-use Rattle.samples.specs.declared.Reader.{Reader}
 use Rattle.samples.specs.declared.Answer.{Answer}
 use Rattle.samples.specs.declared.Answer.the-variants.{Nothing}
-use Rattle.samples.specs.declared.Step.{Step}
+use Rattle.samples.specs.Reader.{Reader, Step}
 use Rattle.samples.specs.Answers.{early, late, no-stop, no-sample, frame}
 
 -- "A fresh reader, and one that has just given a frame or a refusal, waits for 24 idle samples in a row; the sample that gave the

@@ -4,9 +4,9 @@ use mathlib.Core.Path.{_≡_}
 use mathlib.Core.List.{List, [], _∷_, _++_}
 use Prim.Native.Nat.{ℕ, _-_}
 use lib.ListN.{length, replicate}
-use Rattle.samples.specs.declared.Reader.{Reader}
 use Rattle.samples.specs.declared.Answer.{Answer}
 use Rattle.samples.specs.declared.Answer.the-variants.{Nothing}
+use Rattle.samples.specs.Reader.{Reader}
 use Rattle.samples.specs.Reading.{freshOf, stepOf}
 
 unfoldable pub answersOf : Reader → List ℕ → List Answer

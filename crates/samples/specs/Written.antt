@@ -5,8 +5,8 @@ use mathlib.Core.Bool.{cond}
 use lib.Dec.{ltb}
 use Prim.Native.Nat.{ℕ, zero, suc, _-_, _/_, _%_, _^_}
 use lib.ListN.{length, drop, replicate}
-use Rattle.samples.specs.declared.writing.Written.{Written}
-use Rattle.samples.specs.declared.writing.Written.the-variants.{Done, Refused}
+use Rattle.samples.specs.declared.Written.{Written}
+use Rattle.samples.specs.declared.Written.the-variants.{Done, Refused}
 
 -- "A bit lasts 20 samples when written. Bit 1 is active then idle, bit 0 idle then active"
 abbrev pub bitSamples : ℕ → List ℕ
