@@ -5,20 +5,16 @@ use std::time::Duration;
 
 use crate::generator;
 use crate::ours::{Ours, LONGEST_RUN};
-use crate::programs::{self, Name, Program, NAMES};
+use crate::programs::replay::Replay;
+use crate::programs::{self, stream, Name, NAMES};
 use crate::random;
-use crate::replay::{pairs, Replay};
-use crate::samples;
+use crate::report::{input_text, report};
 use crate::shrink;
-use crate::tally::Tally;
+use crate::tally::{Tally, Thing};
 use crate::vectors;
 
 /// A run on a shortened input; one that takes longer counts as a difference.
 const LONGEST_TRY: Duration = Duration::from_secs(10);
-
-/// Lines of output shown before and behind the first differing one.
-const BEFORE: usize = 4;
-const BEHIND: usize = 2;
 
 /// The size of one input of each kind: 20 rounds give 200,000 events and 2,000,000 samples.
 fn size(name: Name) -> usize {
@@ -39,7 +35,7 @@ pub fn compare(seed: u64, rounds: u64) -> bool {
         println!("nothing can be compared: the program {reason}");
         return false;
     }
-    let mut tally = Tally::empty();
+    let mut tally = Tally::default();
     for round in 1..=rounds {
         for (place, name) in NAMES.into_iter().enumerate() {
             let seed = random::derive(seed, round, place as u64);
@@ -92,25 +88,23 @@ fn compare_one(ours: &Ours, name: Name, seed: u64, tally: &mut Tally) -> bool {
 /// The second program's output; what it did is counted along the way.
 fn own_output(name: Name, input: &[u8], tally: &mut Tally) -> Vec<u8> {
     if name == Name::Replay {
-        let (mut replay, mut output) = (Replay::fresh(), Vec::new());
-        replay
-            .feed(input, &mut output)
-            .expect("a vector takes every byte");
-        replay
-            .finish(&mut output)
-            .expect("a vector takes every byte");
+        let mut replay = Replay::fresh();
+        let output = stream::run(&mut replay, input);
         tally.add(&replay.tally);
         return output;
     }
     let output = programs::run(name, input);
     match name {
         Name::List => tally.listing(&output),
-        Name::Decode => tally.samples += input.len() as u64,
-        Name::Encode => tally.written += output.len() as u64,
-        _ => tally.reals += input.len() as u64 / 4,
-    }
-    if name == Name::Decode || name == Name::Real {
-        tally.answers(&output);
+        Name::Decode => {
+            tally.count_many(Thing::SampleRead, input.len());
+            tally.answers(&output);
+        }
+        Name::Encode => tally.count_many(Thing::SampleWritten, output.len()),
+        _ => {
+            tally.count_many(Thing::Float, input.len() / 4);
+            tally.answers(&output);
+        }
     }
     output
 }
@@ -139,62 +133,4 @@ fn compare_vectors(ours: &Ours) -> bool {
         println!("{} fixed vectors: good", vectors.len());
     }
     good
-}
-
-fn input_text(name: Name, input: &[u8]) -> String {
-    match name {
-        Name::Replay => String::from_utf8_lossy(input).into_owned(),
-        Name::Decode => runs_text(input),
-        _ => input.chunks(4).map(|word| pairs(word) + "\n").collect(),
-    }
-}
-
-/// Samples run-length coded: each run as its length, an x and its level.
-fn runs_text(samples: &[u8]) -> String {
-    let runs: Vec<String> = shrink::equal_runs(samples)
-        .iter()
-        .map(|run| format!("{}x{}", run.len(), run[0]))
-        .collect();
-    runs.join(" ")
-}
-
-fn output_lines(name: Name, output: &[u8]) -> Vec<String> {
-    match name {
-        Name::Encode => output.chunks(samples::WRITTEN).map(runs_text).collect(),
-        _ => String::from_utf8_lossy(output)
-            .split('\n')
-            .map(str::to_string)
-            .collect(),
-    }
-}
-
-/// Both outputs around the first differing line.
-fn report(name: Name, given: &Result<Vec<u8>, String>, expected: &[u8]) {
-    let expected = output_lines(name, expected);
-    let given = match given {
-        Ok(output) => output_lines(name, output),
-        Err(reason) => return println!("The program {reason}"),
-    };
-    let same = given
-        .iter()
-        .zip(&expected)
-        .take_while(|(one, other)| one == other)
-        .count();
-    println!("First difference in line {} of the output.", same + 1);
-    for (title, lines) in [
-        ("The program gives", given),
-        ("The second program or the vector gives", expected),
-    ] {
-        println!("{title}:");
-        let from = same.saturating_sub(BEFORE);
-        for (place, line) in lines
-            .iter()
-            .enumerate()
-            .skip(from)
-            .take(same - from + 1 + BEHIND)
-        {
-            let mark = if place == same { '>' } else { ' ' };
-            println!("  {mark} {line}");
-        }
-    }
 }

@@ -3,6 +3,7 @@
 use std::time::{Duration, Instant};
 
 use crate::programs::Name;
+use crate::runs;
 
 /// Each try runs the product once, so there is an end to it.
 const MOST_TRIES: u32 = 200;
@@ -47,20 +48,9 @@ fn split(name: Name, input: &[u8]) -> Vec<Piece> {
             .split_inclusive(|byte| *byte == b'\n')
             .map(<[u8]>::to_vec)
             .collect(),
-        Name::Decode => equal_runs(input),
+        Name::Decode => runs::of(input),
         _ => input.chunks(4).map(<[u8]>::to_vec).collect(),
     }
-}
-
-pub fn equal_runs(samples: &[u8]) -> Vec<Piece> {
-    let mut runs: Vec<Piece> = Vec::new();
-    for sample in samples {
-        match runs.last_mut() {
-            Some(run) if run[0] == *sample => run.push(*sample),
-            _ => runs.push(vec![*sample]),
-        }
-    }
-    runs
 }
 
 impl Shrinker<'_> {

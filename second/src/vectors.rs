@@ -1,7 +1,9 @@
 //! Fixed inputs with the output written down by hand, to which both programs are held. Most stand
 //! in vectors.txt; here are those that are too long to be typed.
 
+use crate::digits;
 use crate::programs::Name;
+use crate::runs;
 use crate::samples;
 
 const TYPED: &str = include_str!("vectors.txt");
@@ -30,8 +32,8 @@ fn typed(block: &str) -> Vector {
     let name = Name::of(kind).expect("a head names one of the programs");
     let input = match name {
         Name::Replay => input.as_bytes().to_vec(),
-        Name::Decode => input.split_whitespace().flat_map(run).collect(),
-        _ => input.split_whitespace().flat_map(bytes).collect(),
+        Name::Decode => runs::read(input),
+        _ => input.split_whitespace().flat_map(hex_bytes).collect(),
     };
     let expected = expected.trim().to_string();
     let end = if expected.is_empty() { "" } else { "\n" };
@@ -48,16 +50,8 @@ fn split_block(rest: &str) -> (&str, &str) {
     }
 }
 
-fn run(text: &str) -> Vec<u8> {
-    let (count, level) = text
-        .split_once('x')
-        .expect("a run has a length and a level");
-    vec![level.parse().expect("a level"); count.parse().expect("a length")]
-}
-
-fn bytes(digits: &str) -> Vec<u8> {
-    let pair = |place| u8::from_str_radix(&digits[place..place + 2], 16).expect("hex digits");
-    (0..digits.len()).step_by(2).map(pair).collect()
+fn hex_bytes(text: &str) -> Vec<u8> {
+    digits::bytes(text.as_bytes()).expect("pairs of hex digits")
 }
 
 fn vector(name: Name, title: &str, input: Vec<u8>, expected: &str) -> Vector {

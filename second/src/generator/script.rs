@@ -8,8 +8,9 @@ mod time;
 use std::io;
 
 use super::{messages, strange_lines};
+use crate::digits::pairs;
+use crate::programs::replay::Replay;
 use crate::random::Random;
-use crate::replay::{pairs, Replay};
 use crate::word;
 
 /// The other side may run under an emulator, so time is spent sparingly.
@@ -139,6 +140,11 @@ impl Script {
             _ => format!("modbus {}", pairs(message)),
         };
         self.say(line.as_bytes());
+    }
+
+    /// The order that waits, if one does, is meant to get no answer.
+    fn planned_silence(&self) -> bool {
+        self.plan.is_some_and(|plan| plan.end == End::Silent)
     }
 
     /// An id that often is one already asked for.

@@ -1,6 +1,6 @@
 //! Frames of a script: the thermostat's, a boiler's answer that fits, and one that is wrong somewhere.
 
-use super::{End, Plan, Script, ENDS, LONGEST_WAITS};
+use super::{End, Script, ENDS, LONGEST_WAITS};
 use crate::line::{Owner, State};
 use crate::word;
 
@@ -100,14 +100,7 @@ impl Script {
             5 => word::with_even_parity(self.random.word()),
             _ => self.random.word(),
         };
-        let silent = matches!(
-            self.plan,
-            Some(Plan {
-                end: End::Silent,
-                ..
-            })
-        );
-        if silent && word::matches(question, frame) {
+        if self.planned_silence() && word::matches(question, frame) {
             return;
         }
         let line = match self.random.below(12) {

@@ -4,13 +4,14 @@ use super::{End, Plan, Script, TICKS_AHEAD, TICKS_PER_LINE};
 use crate::generator::strange_lines;
 use crate::line::{Owner, State};
 use crate::modbus::ROWS;
+use crate::tally::Thing;
 use crate::word;
 
 impl Script {
     /// Lets time pass up to a moment that matters to one line.
     pub(super) fn advance(&mut self) {
         let allowed = TICKS_PER_LINE * self.lines as u64 + TICKS_AHEAD;
-        if self.model.room < 16 || self.model.tally.ticks > allowed {
+        if self.model.room < 16 || self.model.tally.of(Thing::Tick) > allowed {
             return;
         }
         let place = match self.model.gateway.order {
@@ -39,14 +40,7 @@ impl Script {
 
     /// Ticks up to a chosen age of the talk and sends the matching frame there.
     pub(super) fn aim(&mut self, place: usize, owner: Owner, item_age: u64, age: u64) {
-        let silent = matches!(
-            self.plan,
-            Some(Plan {
-                end: End::Silent,
-                ..
-            })
-        );
-        if owner == Owner::Modbus && silent {
+        if owner == Owner::Modbus && self.planned_silence() {
             let few = age + self.random.between(1, 200);
             let target = self.random.pick(&[83, 84, 873, 874, 875, 875, few]);
             return self.tick_up_to(place, age, target.min(875));

@@ -1,25 +1,15 @@
-//! The replay program: a script of events in, a trace out (PROGRAMS, 'replay').
+//! The replay program: a script of events in, a trace out.
 
 use std::io::{self, Write};
 
+use super::command::Command;
+use super::stream::Program;
+use crate::digits::pairs;
 use crate::gateway::{Event, Gateway};
-use crate::programs::Program;
-use crate::tally::Tally;
+use crate::tally::{Tally, Thing};
 
 const LONGEST_LINE: usize = 1024;
-const LONGEST_MESSAGE: usize = 300;
-const LARGEST_ROOM: u64 = 300;
 const ROOM_AT_START: usize = 256;
-
-/// A line of the script that says something.
-#[derive(PartialEq, Eq, Debug)]
-enum Command {
-    Tick(u64),
-    Thermostat(u8, u32),
-    Boiler(u8, u32),
-    Modbus(Vec<u8>),
-    Room(usize),
-}
 
 pub struct Replay {
     pub gateway: Gateway,
@@ -34,7 +24,7 @@ impl Replay {
         Replay {
             gateway: Gateway::fresh(),
             room: ROOM_AT_START,
-            tally: Tally::empty(),
+            tally: Tally::default(),
             time: 0,
             line: Vec::new(),
         }
@@ -42,7 +32,7 @@ impl Replay {
 
     /// One line of the script, its LF taken off.
     pub fn line(&mut self, line: &[u8], trace: &mut dyn Write) -> io::Result<()> {
-        self.tally.script_lines += 1;
+        self.tally.count(Thing::ScriptLine);
         // "So does a line over 1,024 bytes, LF not counted, also one that begins with `#`."
         if line.len() > LONGEST_LINE {
             return self.not_a_line(trace);
@@ -51,7 +41,7 @@ impl Replay {
         if line.is_empty() || line[0] == b'#' {
             return Ok(());
         }
-        match command(line) {
+        match Command::of(line) {
             Some(command) => self.obey(command, trace),
             None => self.not_a_line(trace),
         }
@@ -59,7 +49,7 @@ impl Replay {
 
     /// "Anything else prints `- line` and nothing happens."
     fn not_a_line(&mut self, trace: &mut dyn Write) -> io::Result<()> {
-        self.tally.bad_lines += 1;
+        self.tally.count(Thing::NoLine);
         writeln!(trace, "- line")
     }
 
@@ -83,7 +73,7 @@ impl Replay {
             let events = self.gateway.tick(self.room);
             if !matches!(events[..], [Event::Refused(_)]) {
                 self.time += 1;
-                self.tally.ticks += 1;
+                self.tally.count(Thing::Tick);
             }
             for event in &events {
                 self.print(event, trace)?;
@@ -135,68 +125,4 @@ impl Program for Replay {
         }
         self.line(&line, output)
     }
-}
-
-/// "Bytes pairs of hex digits (either case in, capitals out)."
-pub fn pairs(bytes: &[u8]) -> String {
-    bytes.iter().map(|byte| format!("{byte:02X}")).collect()
-}
-
-/// "Fields are separated by one space"; an empty field makes no command.
-fn command(line: &[u8]) -> Option<Command> {
-    let fields: Vec<&[u8]> = line.split(|byte| *byte == b' ').collect();
-    match fields[..] {
-        [b"tick", count] => Some(Command::Tick(number(count, 1, 4_294_967_295)?)),
-        [b"thermostat", line, word] => {
-            Some(Command::Thermostat(line_number(line)?, hex_word(word)?))
-        }
-        [b"boiler", line, word] => Some(Command::Boiler(line_number(line)?, hex_word(word)?)),
-        [b"modbus"] => Some(Command::Modbus(Vec::new())),
-        [b"modbus", bytes] => Some(Command::Modbus(hex_bytes(bytes)?)),
-        [b"room", size] => Some(Command::Room(number(size, 0, LARGEST_ROOM)? as usize)),
-        _ => None,
-    }
-}
-
-/// "Decimal numbers have one or more digits and no sign; leading zeros are allowed as long as
-/// the line's length allows it; a number outside its range is `- line`."
-fn number(digits: &[u8], least: u64, most: u64) -> Option<u64> {
-    if digits.is_empty() {
-        return None;
-    }
-    let mut number: u64 = 0;
-    for digit in digits {
-        if !digit.is_ascii_digit() {
-            return None;
-        }
-        // Above the range it stays above it, however many digits follow.
-        number = (number * 10 + u64::from(digit - b'0')).min(most + 1);
-    }
-    (least..=most).contains(&number).then_some(number)
-}
-
-fn line_number(digits: &[u8]) -> Option<u8> {
-    number(digits, 0, 255).map(|line| line as u8)
-}
-
-fn hex_word(digits: &[u8]) -> Option<u32> {
-    if digits.len() != 8 {
-        return None;
-    }
-    let bytes: [u8; 4] = hex_bytes(digits)?.try_into().ok()?;
-    Some(u32::from_be_bytes(bytes))
-}
-
-fn hex_bytes(digits: &[u8]) -> Option<Vec<u8>> {
-    if digits.is_empty() || digits.len() % 2 != 0 || digits.len() > 2 * LONGEST_MESSAGE {
-        return None;
-    }
-    digits
-        .chunks(2)
-        .map(|pair| Some(hex_digit(pair[0])? * 16 + hex_digit(pair[1])?))
-        .collect()
-}
-
-fn hex_digit(digit: u8) -> Option<u8> {
-    char::from(digit).to_digit(16).map(|value| value as u8)
 }
