@@ -1,10 +1,10 @@
--- `values::ids::entry` meets its contract: the table's number is that of the id's row.
+-- `ids::entry` meets its contract: the table's number is that of the id's row.
 -- Assumes nothing.
 use borrow.Author.Needs.{needs}
 use native.Mathlib.Omega.{arith}
-use Rattle.values.proofs.Entries.{table, is-entry}
-use Rattle.values.proofs.ids.entry.Statement.{statement}
-use Rattle.values.proofs.ids.entry.Tie as tie
+use Rattle.ids.proofs.Entries.{table, is-entry}
+use Rattle.ids.proofs.entry.Statement.{statement}
+use Rattle.ids.proofs.entry.Tie as tie
 
 array-read-result : tie.Need-array-read-result
 array-read-result c = search needs

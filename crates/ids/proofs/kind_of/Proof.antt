@@ -1,11 +1,11 @@
--- `values::ids::kind_of` meets its contract: the low digit of the id's entry.
+-- `ids::kind_of` meets its contract: the low digit of the id's entry.
 -- Assumes nothing.
 use mathlib.Core.Path.{ap}
 use Prim.Native.Nat.{ℕ, _%_}
 use borrow.Author.Needs.{needs}
-use Rattle.values.specs.Ids.{kindOf}
-use Rattle.values.proofs.ids.kind_of.Statement.{statement}
-use Rattle.values.proofs.ids.kind_of.Tie as tie
+use Rattle.ids.specs.Ids.{kindOf}
+use Rattle.ids.proofs.kind_of.Statement.{statement}
+use Rattle.ids.proofs.kind_of.Tie as tie
 
 entry-requires : tie.Need-entry-requires
 entry-requires c κs = search needs

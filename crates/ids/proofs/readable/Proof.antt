@@ -1,12 +1,12 @@
--- `values::ids::readable` meets its contract: a digit of the id's entry.
+-- `ids::readable` meets its contract: a digit of the id's entry.
 -- Assumes nothing.
 use mathlib.Core.Path.{ap}
 use Prim.Native.Nat.{ℕ, _/_, _%_}
 use lib.Dec.{eqb}
 use borrow.Author.Needs.{needs}
-use Rattle.values.specs.Ids.{readableOf}
-use Rattle.values.proofs.ids.readable.Statement.{statement}
-use Rattle.values.proofs.ids.readable.Tie as tie
+use Rattle.ids.specs.Ids.{readableOf}
+use Rattle.ids.proofs.readable.Statement.{statement}
+use Rattle.ids.proofs.readable.Tie as tie
 
 entry-requires : tie.Need-entry-requires
 entry-requires c κs = search needs

@@ -1,12 +1,12 @@
--- `values::ids::writable` meets its contract: a digit of the id's entry.
+-- `ids::writable` meets its contract: a digit of the id's entry.
 -- Assumes nothing.
 use mathlib.Core.Path.{ap}
 use Prim.Native.Nat.{ℕ, _/_, _%_}
 use lib.Dec.{eqb}
 use borrow.Author.Needs.{needs}
-use Rattle.values.specs.Ids.{writableOf}
-use Rattle.values.proofs.ids.writable.Statement.{statement}
-use Rattle.values.proofs.ids.writable.Tie as tie
+use Rattle.ids.specs.Ids.{writableOf}
+use Rattle.ids.proofs.writable.Statement.{statement}
+use Rattle.ids.proofs.writable.Tie as tie
 
 entry-requires : tie.Need-entry-requires
 entry-requires c κs = search needs
