@@ -1,12 +1,12 @@
--- `word::bytes::word_at` meets its contract: two parts, the high one first, and 0 past the end.
+-- `places::word_at` meets its contract: two parts, the high one first, and 0 past the end.
 -- Assumes nothing.
 use mathlib.Core.Path.{sym, ap₂}
 use Prim.Native.Nat.{ℕ, _+_, _*_}
 use borrow.Author.Needs.{needs}
-use Rattle.word.specs.Bytes.{wordAt}
-use Rattle.word.proofs.Place.{word-past}
-use Rattle.word.proofs.bytes.word_at.Statement.{statement}
-use Rattle.word.proofs.bytes.word_at.Tie as tie
+use Rattle.places.specs.Bytes.{wordAt}
+use Rattle.places.proofs.Place.{word-past}
+use Rattle.places.proofs.word_at.Statement.{statement}
+use Rattle.places.proofs.word_at.Tie as tie
 
 pair-at-requires : tie.Need-pair-at-requires
 pair-at-requires c κs = search needs

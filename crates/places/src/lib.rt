@@ -1,7 +1,7 @@
-// Numbers of two and of four bytes, the high byte first, at a place of a slice. Bytes past the end count as 0.
+// Numbers of one, two and four bytes, the high byte first, at a place of a slice. Bytes past the end count as 0.
 ghost use mathlib.Core.Path.{_≡_};
 ghost use lib.ListN.{getD};
-ghost use Rattle.word.specs.Bytes.{pairAt, wordAt};
+ghost use Rattle.places.specs.Bytes.{pairAt, wordAt};
 
 pub fn byte_at(s: &[u8], at: usize) -> u8
     ensures { λ r. ⌜ r ≡ getD (now (s .entry)) at 0 ⌝ }

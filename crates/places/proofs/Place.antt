@@ -8,7 +8,7 @@ use native.Mathlib.Omega.{arith}
 use native.Mathlib.Nat.{div-add-mod'}
 use lib.ListN.{length, length-append, List·getD-eq-default}
 use lib.Seq.{getD-append-seam, getD-append-add}
-use Rattle.word.specs.Bytes.{pairAt, pair, wordAt, quad}
+use Rattle.places.specs.Bytes.{pairAt, pair, wordAt, quad}
 
 -- two bytes are read as they were written
 pub pair-back : (p s : List ℕ) (v : ℕ) → pairAt (p ++ pair v s) (length p) ≡ v

@@ -1,10 +1,10 @@
--- `word::bytes::byte_at` meets its contract: past the end a list's element is 0.
+-- `places::byte_at` meets its contract: past the end a list's element is 0.
 -- Assumes nothing.
 use mathlib.Core.Path.{sym}
 use borrow.Author.Needs.{needs}
 use lib.ListN.{List·getD-eq-default}
-use Rattle.word.proofs.bytes.byte_at.Statement.{statement}
-use Rattle.word.proofs.bytes.byte_at.Tie as tie
+use Rattle.places.proofs.byte_at.Statement.{statement}
+use Rattle.places.proofs.byte_at.Tie as tie
 
 shared-slice-read-result : tie.Need-shared-slice-read-result
 shared-slice-read-result c = search needs

@@ -1,12 +1,12 @@
--- `word::bytes::pair_at` meets its contract: two parts, the high one first, and 0 past the end.
+-- `places::pair_at` meets its contract: two parts, the high one first, and 0 past the end.
 -- Assumes nothing.
 use mathlib.Core.Path.{sym, ap₂}
 use Prim.Native.Nat.{ℕ, _+_, _*_}
 use borrow.Author.Needs.{needs}
-use Rattle.word.specs.Bytes.{pairAt}
-use Rattle.word.proofs.Place.{pair-past}
-use Rattle.word.proofs.bytes.pair_at.Statement.{statement}
-use Rattle.word.proofs.bytes.pair_at.Tie as tie
+use Rattle.places.specs.Bytes.{pairAt}
+use Rattle.places.proofs.Place.{pair-past}
+use Rattle.places.proofs.pair_at.Statement.{statement}
+use Rattle.places.proofs.pair_at.Tie as tie
 
 byte-at-requires : tie.Need-byte-at-requires
 byte-at-requires c κs = search needs
