@@ -10,9 +10,9 @@ use borrow.Author.Tests.{leb-true, eqb-true, eqb-false}
 use lib.Dec.{eqb, leb, ltb, lit<}
 use lib.ListN.{length, getD, take}
 use Rattle.word.proofs.Clash.{clash}
-use Rattle.word.specs.Bytes.{pairAt}
+use Rattle.places.specs.Bytes.{pairAt}
 use Rattle.word.proofs.Match.{both}
-use Rattle.word.proofs.Place.{pair-past}
+use Rattle.places.proofs.Place.{pair-past}
 use Rattle.crc.specs.Crc.{passesOf, unsealed}
 use Rattle.modbus.specs.declared.Form.{Form}
 use Rattle.modbus.specs.declared.Order.{Order}

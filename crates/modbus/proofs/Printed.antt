@@ -4,7 +4,7 @@
 use mathlib.Core.Path.{_≡_, refl}
 use mathlib.Core.List.{List, [], _∷_, map}
 use Prim.Native.Nat.{ℕ}
-use Rattle.word.specs.Bytes.{pairAt}
+use Rattle.places.specs.Bytes.{pairAt}
 use Rattle.modbus.specs.declared.Outcome.{Outcome}
 use Rattle.modbus.specs.declared.Outcome.the-variants.{Answer, NoAnswer}
 use Rattle.modbus.specs.declared.Reading.{Reading}

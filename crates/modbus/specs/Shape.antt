@@ -6,7 +6,7 @@ use mathlib.Core.List.{List}
 use mathlib.Core.Bool.{Bool, cond, not, _&&_, _||_}
 use lib.ListN.{length, getD}
 use lib.Dec.{eqb, leb}
-use Rattle.word.specs.Bytes.{pairAt}
+use Rattle.places.specs.Bytes.{pairAt}
 use Rattle.modbus.specs.declared.shape.Fields.{Fields}
 
 abbrev pub unitOf : List ℕ → ℕ

@@ -5,7 +5,7 @@ use mathlib.Core.Path.{_≡_}
 use mathlib.Core.List.{List, [], _∷_, _++_}
 use lib.Dec.{leb}
 use lib.ListN.{length, take, drop}
-use Rattle.word.specs.Bytes.{pair}
+use Rattle.places.specs.Bytes.{pair}
 use Rattle.crc.specs.Crc.{passesOf, sealed, unsealed}
 use Rattle.modbus.specs.Mapping.{unless, within, readOf}
 use Rattle.modbus.specs.declared.Reading.{Reading}

@@ -4,7 +4,7 @@ ghost use mathlib.Core.Path.{_≡_};
 ghost use Prim.Native.Nat.{_/_, _%_, _≤_};
 ghost use lib.ListN.{length};
 ghost use mathlib.Core.List.{[], _∷_};
-ghost use Rattle.word.specs.Bytes.{pair};
+ghost use Rattle.places.specs.Bytes.{pair};
 ghost use Rattle.modbus.specs.Wire.{bodyOf, placed, Holds};
 
 // At most eight bytes.

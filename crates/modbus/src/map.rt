@@ -14,7 +14,7 @@ use crate::shape::formed;
 use crate::shape::offset;
 use crate::shape::says;
 use crate::shape::served;
-use word::bytes::byte_at;
+use places::byte_at;
 ghost use mathlib.Core.Path.{_≡_};
 ghost use Rattle.modbus.specs.Mapping.{byMessage, typeFrom, unlikeOf, atOnce, orderOf, askOf, ownOf, mappedOf, readOf};
 

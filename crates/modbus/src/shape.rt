@@ -1,7 +1,7 @@
 // The form of a request: which functions are served, the exact length, byte count and counts, and where each field stands.
 // A body is what stands between wrapping and checksum: unit, function, data.
-use word::bytes::byte_at;
-use word::bytes::pair_at;
+use places::byte_at;
+use places::pair_at;
 ghost use mathlib.Core.Path.{_≡_};
 ghost use Rattle.modbus.specs.Shape.{servedOf, readFormed, manyFormed, bothFormed, formedOf, bothFields, writeFields, fieldsOf, offsetOf};
 

@@ -40,7 +40,7 @@ fn encode(block: &[u8], room: &mut [u8])
     let mut used: usize = 0;
     let mut at: usize = 0;
     while block.len() - at >= WORD {
-        used = add(word::bytes::word_at(block, at), room, used);
+        used = add(places::word_at(block, at), room, used);
         at += WORD;
     }
     io::write_all(STDOUT_FILENO, &room[..used]);

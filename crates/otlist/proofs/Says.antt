@@ -11,7 +11,7 @@ use borrow.Author.Tests.{ltb-false}
 use Rattle.word.specs.Frame.{evenOf, typeOf, idOf, valueOf}
 use Rattle.text.specs.Text.{emptyText, puts, says, decimalOf}
 use Rattle.text.proofs.Puts.{decimal-short, hex-length, says-puts}
-use Rattle.values.specs.Ids.{kindOf}
+use Rattle.ids.specs.Ids.{kindOf}
 use Rattle.otlist.specs.Listing.{nameOf, signedOf, numbersOf, fieldsOf, lineOf}
 
 -- both cases of a choice are short

@@ -6,7 +6,7 @@ use mathlib.Core.List.{List, [], _∷_, _++_}
 use lib.Dec.{eqb, ltb}
 use Rattle.word.specs.Frame.{evenOf, typeOf, idOf, valueOf}
 use Rattle.text.specs.Text.{decimalOf, hexOf}
-use Rattle.values.specs.Ids.{kindOf, real, s16, u16, pair, spair}
+use Rattle.ids.specs.Ids.{kindOf, real, s16, u16, pair, spair}
 
 abbrev pub space : ℕ
 space = 32

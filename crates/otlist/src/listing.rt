@@ -52,7 +52,7 @@ fn fields(t: Text, w: u32) -> Text
 {
     let id = word::id_of(w);
     let value = word::value_of(w);
-    let kind = values::ids::kind_of(id);
+    let kind = ids::kind_of(id);
     let a = t.decimal(word::type_of(w) as u64).push(b' ');
     let b = a.decimal(id as u64).push(b' ');
     let c = b.hex(value as u32, 4).push(b' ');

@@ -15,7 +15,7 @@ fn next() -> bool {
         io::write_all(STDOUT_FILENO, b"- short\n");
         return false;
     }
-    print::print(listing::line(word::bytes::word_at(&bytes, 0)));
+    print::print(listing::line(places::word_at(&bytes, 0)));
     true
 }
 

@@ -27,7 +27,7 @@ fn next() -> bool {
     if io::read_full(STDIN_FILENO, &mut bytes) < 4 {
         return false;
     }
-    print::print(line(float(word::bytes::word_at(&bytes, 0))));
+    print::print(line(float(places::word_at(&bytes, 0))));
     true
 }
 

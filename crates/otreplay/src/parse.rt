@@ -1,5 +1,5 @@
 // A line of a script, read into an event. Bytes past a line's end count as 0, which no field allows.
-use word::bytes::byte_at;
+use places::byte_at;
 
 // What a line of the script says. The bytes of a message stand in the room that was lent for them.
 pub(crate) enum Event {

@@ -28,7 +28,7 @@ fn bytes(t: Text, room: &[u8], count: usize) -> Text {
     let mut shown = t;
     let mut i = 0;
     while i < count {
-        shown = shown.hex(word::bytes::byte_at(room, i) as u32, 2);
+        shown = shown.hex(places::byte_at(room, i) as u32, 2);
         i += 1;
     }
     shown

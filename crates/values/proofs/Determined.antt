@@ -3,25 +3,10 @@
 use mathlib.Core.Path.{sym, _∙_}
 use Rattle.word.proofs.One.{One}
 use Rattle.values.proofs.Trip.{bits-one}
-use Rattle.values.proofs.ids.kind_of.Reads as kind-of-reads
-use Rattle.values.proofs.ids.kind_of.Kinds as kind-of-kinds
-use Rattle.values.proofs.ids.readable.Reads as readable-reads
-use Rattle.values.proofs.ids.readable.Kinds as readable-kinds
-use Rattle.values.proofs.ids.writable.Reads as writable-reads
-use Rattle.values.proofs.ids.writable.Kinds as writable-kinds
 use Rattle.values.proofs.typed_of.Reads as typed-of-reads
 use Rattle.values.proofs.typed_of.Kinds as typed-of-kinds
 use Rattle.values.proofs.bits.Reads as bits-reads
 use Rattle.values.proofs.bits.Kinds as bits-kinds
-
-pub kind-of-one : One kind-of-kinds.ps kind-of-kinds.r kind-of-reads.Post
-kind-of-one κs a u v x y p q = p ∙ sym q
-
-pub readable-one : One readable-kinds.ps readable-kinds.r readable-reads.Post
-readable-one κs a u v x y p q = p ∙ sym q
-
-pub writable-one : One writable-kinds.ps writable-kinds.r writable-reads.Post
-writable-one κs a u v x y p q = p ∙ sym q
 
 pub typed-of-one : One typed-of-kinds.ps typed-of-kinds.r typed-of-reads.Post
 typed-of-one κs a u v x y p q = p ∙ sym q

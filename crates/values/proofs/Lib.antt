@@ -1,5 +1,4 @@
 -- Laws of the data values, for the proofs here and in the crates above.
-pub mod Entries
 pub mod Exact
 pub mod Sign
 pub mod Floats

@@ -11,8 +11,8 @@ use mir.Syntax.{w8, w16}
 use mir.Val.{toZ}
 use mir.ValLaws.{ofZ-toZ}
 use Rattle.word.proofs.Clash.{clash}
+use Rattle.ids.specs.Ids.{kindOf}
 use Rattle.values.specs.Real.{realOf, BackOf}
-use Rattle.values.specs.Ids.{kindOf}
 use Rattle.values.specs.Typed.{readAs, BitsOf}
 use Rattle.values.specs.declared.Back.{Back}
 use Rattle.values.specs.declared.Back.the-variants.{Bits, Refused}

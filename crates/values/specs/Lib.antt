@@ -1,4 +1,3 @@
 -- What a reader must believe of the data values.
-pub mod Ids
 pub mod Real
 pub mod Typed

@@ -6,7 +6,7 @@ use mathlib.Core.Bool.{cond}
 use lib.Dec.{eqb}
 use mir.Syntax.{w8, w16}
 use mir.Val.{toZ, ofZ}
-use Rattle.values.specs.Ids.{real, s16, u16, pair, spair}
+use Rattle.ids.specs.Ids.{real, s16, u16, pair, spair}
 use Rattle.values.specs.Real.{realOf, BackOf}
 use Rattle.values.specs.declared.Back.{Back}
 use Rattle.values.specs.declared.Back.the-variants.{Bits}

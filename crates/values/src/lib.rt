@@ -1,10 +1,9 @@
-// The meaning of a frame's 16 data bits: each id's kind, the typed value of the bits, and the bits of a typed value.
-pub mod ids;
+// The meaning of a frame's 16 data bits: the typed value of an id's bits, by the id's kind, and the bits of a typed value.
 mod real;
 mod signed;
 
 ghost use mathlib.Core.Path.{_≡_};
-ghost use Rattle.values.specs.Ids.{kindOf};
+ghost use Rattle.ids.specs.Ids.{kindOf};
 ghost use Rattle.values.specs.Typed.{readAs, BitsOf};
 
 // A typed value. A pair has its high byte first.

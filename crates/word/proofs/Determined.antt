@@ -16,12 +16,6 @@ use Rattle.word.proofs.build.Reads as build-reads
 use Rattle.word.proofs.build.Kinds as build-kinds
 use Rattle.word.proofs.matches.Reads as matches-reads
 use Rattle.word.proofs.matches.Kinds as matches-kinds
-use Rattle.word.proofs.bytes.byte_at.Reads as byte-at-reads
-use Rattle.word.proofs.bytes.byte_at.Kinds as byte-at-kinds
-use Rattle.word.proofs.bytes.pair_at.Reads as pair-at-reads
-use Rattle.word.proofs.bytes.pair_at.Kinds as pair-at-kinds
-use Rattle.word.proofs.bytes.word_at.Reads as word-at-reads
-use Rattle.word.proofs.bytes.word_at.Kinds as word-at-kinds
 
 pub even-one : One even-kinds.ps even-kinds.r even-reads.Post
 even-one κs a u v x y p q = p ∙ sym q
@@ -43,12 +37,3 @@ build-one κs a u v x y p q = p ∙ sym q
 
 pub matches-one : One matches-kinds.ps matches-kinds.r matches-reads.Post
 matches-one κs a u v x y p q = p ∙ sym q
-
-pub byte-at-one : One byte-at-kinds.ps byte-at-kinds.r byte-at-reads.Post
-byte-at-one κs a u v x y p q = p ∙ sym q
-
-pub pair-at-one : One pair-at-kinds.ps pair-at-kinds.r pair-at-reads.Post
-pair-at-one κs a u v x y p q = p ∙ sym q
-
-pub word-at-one : One word-at-kinds.ps word-at-kinds.r word-at-reads.Post
-word-at-one κs a u v x y p q = p ∙ sym q

@@ -1,6 +1,5 @@
 -- Laws of the frame word, for the proofs here and in the crates above.
 pub mod Clash
-pub mod Place
 pub mod Parity
 pub mod Fields
 pub mod Table

@@ -1,3 +1,2 @@
 -- What a reader must believe of the frame word.
 pub mod Frame
-pub mod Bytes

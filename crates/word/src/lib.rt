@@ -1,6 +1,4 @@
 // The frame word: its fields, its parity, a word from its fields, and when a boiler's word answers a question.
-pub mod bytes;
-
 ghost use mathlib.Core.Path.{_≡_};
 ghost use Rattle.word.specs.Frame.{evenOf, typeOf, spareOf, idOf, valueOf, builtOf, suitsOf, matchesOf};
 

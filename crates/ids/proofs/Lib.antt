@@ -1,0 +1,3 @@
+-- Laws of the data ids, for the proofs here and in the crates above.
+pub mod Entries
+mod Determined

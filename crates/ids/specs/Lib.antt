@@ -1,0 +1,2 @@
+-- What a reader must believe of the data ids.
+pub mod Ids
