@@ -12,7 +12,8 @@ use Rattle.samples.specs.Reader.{Reader}
 use Rattle.samples.specs.Answers.{frame}
 use Rattle.samples.specs.Reading.{freshOf, waitedOf, stepOf}
 use Rattle.samples.specs.Run.{answersOf, afterOf, none}
-use Rattle.samples.specs.Edges.{levelOf, Stretch, plain, crossed, Allowed, AllAllowed, turned, levelAfter, stretchSamples, stretchesSamples, signalOf, lineOf, edgeBits, numberFrom}
+use Rattle.samples.specs.Edges.{levelOf, Stretch, plain, crossed, Allowed, AllAllowed, turned, levelAfter, stretchSamples, stretchesSamples}
+use Rattle.samples.specs.Edges.{signalOf, lineOf, edgeBits, numberFrom}
 use Rattle.samples.specs.Written.{bitSamples, inSamples, bitsOf, samplesOf}
 use Rattle.samples.proofs.Lengths.{length-bits, length-samples}
 use Rattle.samples.proofs.Runs.{answers-append}
@@ -71,7 +72,8 @@ run-of-bits a (b ∷ l) h =
     let c = turned a (stretchTo a b) in
     moved a b (inSamples l) (h .0)
     ∙ ap (λ (y : List ℕ). stretchSamples a (stretchTo a b) ++ y) (run-of-bits c l (h .1))
-    ∙ sym (append-assoc (stretchSamples a (stretchTo a b)) (stretchesSamples c (stretchesTo c l)) (replicate 9 (levelOf (levelAfter c (stretchesTo c l))) ++ []))
+    ∙ sym (append-assoc (stretchSamples a (stretchTo a b)) (stretchesSamples c (stretchesTo c l))
+    (replicate 9 (levelOf (levelAfter c (stretchesTo c l))) ++ []))
 
 -- the last bit, a 1
 stretches-to-last : (a : Bool) (l : List ℕ) → stretchesTo a (l ++ (1 ∷ [])) ≡ stretchesTo a l ++ (stretchTo (levelAfter a (stretchesTo a l)) 1 ∷ [])

@@ -14,8 +14,10 @@ use Rattle.samples.specs.Reader.{Reader}
 use Rattle.samples.specs.Answers.{early, late}
 use Rattle.samples.specs.Reading.{freshOf, gives, goesOn, bitOf, middleOf, nextOf, waitedOf, stepOf}
 use Rattle.samples.specs.Run.{answersOf, afterOf}
-use Rattle.samples.specs.Edges.{levelOf, Stretch, plain, crossed, Allowed, AllAllowed, turned, levelAfter, stretchSamples, stretchesSamples, lineOf, edgeBits, numberFrom}
-use Rattle.samples.proofs.Cases.{idle-enough, first-edge, start-on, start-middle, no-edge, other-edge, middle-edge, second-other, before-8, past-14, too-late, next-bit, bit-small, a-sample}
+use Rattle.samples.specs.Edges.{levelOf, Stretch, plain, crossed, Allowed, AllAllowed, turned, levelAfter, stretchSamples, stretchesSamples}
+use Rattle.samples.specs.Edges.{lineOf, edgeBits, numberFrom}
+use Rattle.samples.proofs.Cases.{idle-enough, first-edge, start-on, start-middle, no-edge, other-edge, middle-edge, second-other, before-8}
+use Rattle.samples.proofs.Cases.{past-14, too-late, next-bit, bit-small, a-sample}
 use Rattle.samples.proofs.Runs.{Quiet, stay, join, one}
 
 abbrev pub armed : Reader

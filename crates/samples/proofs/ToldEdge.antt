@@ -14,7 +14,8 @@ use Rattle.samples.specs.Answers.{frame}
 use Rattle.samples.specs.Reading.{gives, goesOn, pastEdge, middleOf, stepOf}
 use Rattle.samples.specs.Edges.{levelOf, Stretch, plain, crossed, Allowed, AllAllowed, turned, levelAfter, lineOf, wordOf}
 use Rattle.samples.proofs.Cases.{next-bit, stop-rises, stop-falls}
-use Rattle.samples.proofs.Stretches.{level-last, all-allowed, mid, legSamples, afterLeg, legEnd, leg-last, leg-edge, shift, shiftedBy, word-after, line-last}
+use Rattle.samples.proofs.Stretches.{level-last, all-allowed, mid, legSamples, afterLeg, legEnd, leg-last, leg-edge, shift, shiftedBy}
+use Rattle.samples.proofs.Stretches.{word-after, line-last}
 use Rattle.samples.proofs.Told.{follows, Next, goes, refuses, ends, behind}
 
 shifted-last : (w : ℕ) (a : Bool) (l : List Stretch) (t : Stretch) →
@@ -93,7 +94,8 @@ module _ (h b : List ℕ) (s : ℕ) (l : List Stretch) (t : Stretch) (hs : (8 �
       go (yes g) =
           goes h x y (Bits (pastEdge (1 + length l + 1) (shift (wordOf l) (turned c t)) (turned c t)))
           (edge ∙ next (1 + length l) (wordOf l) t (turned c t) (omega arith))
-          (follows b s (l ++ (t ∷ [])) (plain 1) hs (all-allowed l (t ∷ []) hl (ht, tt)) (let n = length-append l (t ∷ []) in omega arith) (omega arith, omega arith)
+          (follows b s (l ++ (t ∷ [])) (plain 1) hs (all-allowed l (t ∷ []) hl (ht, tt)) (let n =
+          length-append l (t ∷ []) in omega arith) (omega arith, omega arith)
           (longer ∙ ap (λ (z : List ℕ). b ++ z) (sym (append-nil (lineOf 0 s (l ++ (t ∷ []))))))
           (reader g))
       go (no g) = last (omega arith) (turned c t) refl

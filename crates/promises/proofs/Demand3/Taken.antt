@@ -60,4 +60,7 @@ module _ (h : Inputs) where
           ∙ ap (λ (b : Bool). cond b (line.order (questionOf o)) line.pass) (eq-eqb (o .line) (o .line) refl)
 
       busy : (j : ℕ) × (v : Question) × (j < i) × promise.Accepted (E h (o .line)) (S h (o .line)) j v × Never (S h (o .line)) ends j i → ⊥
-      busy d = let w = held (o .line) (d .0) (d .1) i (d .3) (d .2) (d .4) .waits in let e : Nothing ≡ Waits (held (o .line) (d .0) (d .1) i (d .3) (d .2) (d .4) .begun .o) = sym (a .2) ∙ w in clash cc
+      busy d =
+          let w = held (o .line) (d .0) (d .1) i (d .3) (d .2) (d .4) .waits in
+          let e : Nothing ≡ Waits (held (o .line) (d .0) (d .1) i (d .3) (d .2) (d .4) .begun .o) = sym (a .2) ∙ w in
+          clash cc

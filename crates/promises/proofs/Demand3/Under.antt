@@ -60,7 +60,8 @@ module _ (h : Inputs) where
       go (stays same z u) = record { still = under-next n ∙ same ∙ was; aside = z }
       go (finishes p r w was′ is op t wr) =
           let q : p ≡ o = same-order n o p was was′ in
-          let e : settledOf o (saidTo (boxAt h n) (o .line) (h n)) ≡ Came r w = subst (λ (x : Order). settledOf x (saidTo (boxAt h n) (x .line) (h n)) ≡ Came r w) q op in
+          let e : settledOf o (saidTo (boxAt h n) (o .line) (h n)) ≡ Came r w =
+          subst (λ (x : Order). settledOf x (saidTo (boxAt h n) (x .line) (h n)) ≡ Came r w) q op in
           absurd (off (ap about (note-is h (named-at h n o was) n) ∙ came-ends o (saidTo (boxAt h n) (o .line) (h n)) r w e))
 
   -- from acceptance on, as long as its line gives no outcome, the order is under way

@@ -44,7 +44,9 @@ returns c = ap Real (c .real-of .ensures) ∙ sym (ap (λ (k : ℕ). readAs k (c
 
 returns-2 : tie.Need-returns-2
 unfolding readAs
-returns-2 c = ap (λ (z : ℤ). S16 (toZ w16 (ofZ w16 z))) (c .signed16 .ensures) ∙ ap (λ (n : ℕ). S16 (toZ w16 n)) (ofZ-toZ w16 (c .before .before .args .raw) (c .before .before .fits .raw)) ∙ sym (ap (λ (k : ℕ). readAs k (c .before .before .args .raw)) (c .before .match .keys2))
+returns-2 c = ap (λ (z : ℤ). S16 (toZ w16 (ofZ w16 z))) (c .signed16 .ensures)
+    ∙ ap (λ (n : ℕ). S16 (toZ w16 n)) (ofZ-toZ w16 (c .before .before .args .raw) (c .before .before .fits .raw))
+    ∙ sym (ap (λ (k : ℕ). readAs k (c .before .before .args .raw)) (c .before .match .keys2))
 
 returns-3 : tie.Need-returns-3
 unfolding readAs

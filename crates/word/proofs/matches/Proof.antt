@@ -22,8 +22,14 @@ id-of-requires-2 c κs = search needs
 returns-2 : tie.Need-returns-2
 unfolding matchesOf
 returns-2 c =
-    rw
-    (← c .before .before .before .before .even .ensures, not-false (c .before .before .before .before .even .result) (c .before .before .before .if1 .left), ← c .before .before .id-of .ensures, ← c .before .id-of2 .ensures, ne-eqb _ _ (c .if2 .taken))
+    rw (
+      ← c .before .before .before .before .even .ensures,
+      not-false (c .before .before .before .before .even .result)
+          (c .before .before .before .if1 .left),
+      ← c .before .before .id-of .ensures,
+      ← c .before .id-of2 .ensures,
+      ne-eqb _ _ (c .if2 .taken),
+    )
 
 type-of-requires : tie.Need-type-of-requires
 type-of-requires c κs = search needs
@@ -38,8 +44,17 @@ returns-3 : tie.Need-returns-3
 unfolding matchesOf
 returns-3 c =
     let d = c .before .before .before .before in
-    rw
-    (← d .before .before .before .even .ensures, not-false (d .before .before .before .even .result) (d .before .before .if1 .left), ← d .before .id-of .ensures, ← d .id-of2 .ensures, eq-eqb _ _ (c .before .before .before .if2 .left), ← c .before .before .type-of .ensures, ← c .before .type-of2 .ensures)
+    rw (
+      ← d .before .before .before .even .ensures,
+      not-false (d .before .before .before .even .result)
+          (d .before .before .if1 .left),
+      ← d .before .id-of .ensures,
+      ← d .id-of2 .ensures,
+      eq-eqb _ _
+          (c .before .before .before .if2 .left),
+      ← c .before .before .type-of .ensures,
+      ← c .before .type-of2 .ensures,
+    )
     (c .suits .ensures)
 
 pub matches-spec : {M : Type 1} → statement M

@@ -64,17 +64,29 @@ returns c = rw (c .before .enum-told .given .1) (c .empty .ensures)
 
 returns-2 : tie.Need-returns-2
 unfolding lineOf
-returns-2 c =
-    rw
-    (c .before .before .before .before .before .before .before .answer .given .1, puts-append, puts-append, puts-last, ← c .before .before .before .before .before .empty2 .ensures, ← c .before .before .before .before .decimal .ensures, ← c .before .before .put .ensures, ← c .before .hex .ensures)
-    (c .push .ensures)
+returns-2 c = rw (
+  c .before .before .before .before .before .before .before .answer .given .1,
+  puts-append,
+  puts-append,
+  puts-last,
+  ← c .before .before .before .before .before .empty2 .ensures,
+  ← c .before .before .before .before .decimal .ensures,
+  ← c .before .before .put .ensures,
+  ← c .before .hex .ensures,
+) (c .push .ensures)
 
 returns-3 : tie.Need-returns-3
 unfolding lineOf
-returns-3 c =
-    rw
-    (c .before .before .before .before .before .before .before .answer2 .given .1, puts-append, puts-append, puts-last, ← c .before .before .before .before .before .empty3 .ensures, ← c .before .before .before .before .decimal2 .ensures, ← c .before .before .put2 .ensures, ← c .before .decimal3 .ensures)
-    (c .push2 .ensures)
+returns-3 c = rw (
+  c .before .before .before .before .before .before .before .answer2 .given .1,
+  puts-append,
+  puts-append,
+  puts-last,
+  ← c .before .before .before .before .before .empty3 .ensures,
+  ← c .before .before .before .before .decimal2 .ensures,
+  ← c .before .before .put2 .ensures,
+  ← c .before .decimal3 .ensures,
+) (c .push2 .ensures)
 
 pub line-spec : {M : Type 1} → statement M
 line-spec =

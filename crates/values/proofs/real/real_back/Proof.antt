@@ -30,7 +30,8 @@ returns : tie.Need-returns
 returns c =
     let g = c .before .before .guess .result in
     let x = c .before .before .before .before .args .x in
-    let same : x ≡ realOf g = sym (bits-apart (c .before .real-of .result) x (c .before .real-of .ok) (c .before .before .before .before .good .0 .1) (c .if2 .taken)) ∙ c .before .real-of .ensures in
+    let good = c .before .before .before .before .good .0 .1 in
+    let same : x ≡ realOf g = sym (bits-apart (c .before .real-of .result) x (c .before .real-of .ok) good (c .if2 .taken)) ∙ c .before .real-of .ensures in
     record {
       given = λ raw h e. ap Bits (c .before .before .guess .ensures raw h e);
       found = λ raw e. let i : g ≡ raw = cc in (omega arith, same ∙ ap realOf i);
@@ -40,7 +41,8 @@ returns c =
 returns-2 : tie.Need-returns-2
 returns-2 c =
     record {
-      given = λ raw h e. absurd (c .if2 .left (ap (toBits binary32) (c .before .real-of .ensures ∙ ap realOf (c .before .before .guess .ensures raw h e) ∙ sym e)));
+      given = λ raw h e. absurd
+          (c .if2 .left (ap (toBits binary32) (c .before .real-of .ensures ∙ ap realOf (c .before .before .guess .ensures raw h e) ∙ sym e)));
       found = λ raw e. clash cc;
       number = λ n e. cc;
     }
