@@ -42,7 +42,7 @@ fn bytes(s: &[u8]) {
 
 fn reply(r: Reply) {
     let mut room = [0xeeu8; 16];
-    match modbus::write(r, &mut room) {
+    match replies::write(r, &mut room) {
         Written::Count(n) => {
             if n <= 16 {
                 bytes(&room[..n]);
@@ -55,7 +55,7 @@ fn reply(r: Reply) {
 fn outcome(o: Order, t: u8) {
     say(b" ");
     io::print_decimal(STDOUT_FILENO, t as u64);
-    reply(modbus::answer(o, Outcome::Answer(t, 0x3280)));
+    reply(replies::answer(o, Outcome::Answer(t, 0x3280)));
 }
 
 fn word(w: u32) {
@@ -70,7 +70,7 @@ fn order(o: Order) {
     say(b"order ");
     io::print_decimal(STDOUT_FILENO, o.line as u64);
     let q = o.question;
-    word(modbus::question_word(q));
+    word(requests::question_word(q));
     let t = q.t;
     match t {
         QuestionType::ReadData => outcome(o, 4),
@@ -80,13 +80,13 @@ fn order(o: Order) {
     outcome(o, 6);
     outcome(o, 7);
     say(b" none");
-    reply(modbus::answer(o, Outcome::NoAnswer));
+    reply(replies::answer(o, Outcome::NoAnswer));
     say(b" busy");
-    reply(modbus::busy(o));
+    reply(replies::busy(o));
 }
 
 fn message(s: &[u8]) {
-    match modbus::request(s) {
+    match requests::request(s) {
         Reading::Silent(n) => {
             say(b"silent ");
             io::print_decimal(STDOUT_FILENO, n as u64);
@@ -119,12 +119,12 @@ fn roomed(r: Reply, n: usize) {
         return;
     }
     let mut room = [0xeeu8; 20];
-    number(modbus::write(r, &mut room[..n]));
+    number(replies::write(r, &mut room[..n]));
     bytes(&room);
 }
 
 fn rooms(s: &[u8]) {
-    match modbus::request(s) {
+    match requests::request(s) {
         Reading::AtOnce(r) => {
             roomed(r, 15);
             roomed(r, 16);

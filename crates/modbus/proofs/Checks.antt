@@ -14,9 +14,9 @@ use Rattle.crc.proofs.Sealed.{length-sealed, sealed-passes, unsealed-sealed}
 use Rattle.modbus.specs.declared.QuestionType.{QuestionType}
 use Rattle.modbus.specs.declared.Reading.the-variants.{Accepted}
 use Rattle.modbus.specs.declared.Reply.{Reply}
-use Rattle.modbus.specs.declared.map.Typed.the-variants.{Known, Unnamed}
 use Rattle.modbus.specs.declared.rows.Found.the-variants.{First, Nothing}
 use Rattle.modbus.specs.declared.rows.Row.{Row}
+use Rattle.modbus.specs.declared.rows.Typed.the-variants.{Known, Unnamed}
 use Rattle.modbus.specs.declared.shape.Fields.{Fields}
 use Rattle.modbus.specs.Shape.{unitOf, functionOf, servedOf, formedOf, fieldsOf}
 use Rattle.modbus.specs.Mapping.{within, rows, firstOf, typeFrom, orderOf, atOnce, askOf, unlikeOf, mappedOf, ownOf, readOf}

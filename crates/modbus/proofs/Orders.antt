@@ -20,10 +20,10 @@ use Rattle.modbus.specs.declared.QuestionType.{QuestionType}
 use Rattle.modbus.specs.declared.Reading.the-variants.{Silent, AtOnce, Accepted}
 use Rattle.modbus.specs.declared.Reply.{Reply}
 use Rattle.modbus.specs.declared.Reply.the-variants.{Exception, Value}
-use Rattle.modbus.specs.declared.map.Typed.{Typed}
-use Rattle.modbus.specs.declared.map.Typed.the-variants.{Known, Unnamed}
 use Rattle.modbus.specs.declared.rows.Found.{Found}
 use Rattle.modbus.specs.declared.rows.Found.the-variants.{First, Nothing}
+use Rattle.modbus.specs.declared.rows.Typed.{Typed}
+use Rattle.modbus.specs.declared.rows.Typed.the-variants.{Known, Unnamed}
 use Rattle.modbus.specs.declared.shape.Fields.{Fields}
 use Rattle.modbus.specs.Shape.{unitOf, functionOf, servedOf, bothFormed, formedOf, readFields, writeFields, bothFields, fieldsOf}
 use Rattle.modbus.specs.Mapping.{

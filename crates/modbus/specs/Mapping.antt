@@ -15,8 +15,6 @@ use Rattle.modbus.specs.declared.Reading.{Reading}
 use Rattle.modbus.specs.declared.Reading.the-variants.{Silent, AtOnce, Accepted}
 use Rattle.modbus.specs.declared.Reply.the-variants.{Exception, Value}
 use Rattle.modbus.specs.declared.shape.Fields.{Fields}
-use Rattle.modbus.specs.declared.map.Typed.{Typed}
-use Rattle.modbus.specs.declared.map.Typed.the-variants.{Known, Unnamed}
 use Rattle.modbus.specs.declared.rows.Asks.{Asks}
 use Rattle.modbus.specs.declared.rows.Asks.the-variants.{Always, ByMessage}
 use Rattle.modbus.specs.declared.rows.Found.{Found}
@@ -24,6 +22,8 @@ use Rattle.modbus.specs.declared.rows.Found.the-variants.{First, Nothing
 use Rattle.modbus.specs.declared.rows.Page.{Page}
 use Rattle.modbus.specs.declared.rows.Page.the-variants.{Any, At}
 use Rattle.modbus.specs.declared.rows.Row.{Row}
+use Rattle.modbus.specs.declared.rows.Typed.{Typed}
+use Rattle.modbus.specs.declared.rows.Typed.the-variants.{Known, Unnamed}
 
 -- where a check does not hold, its answer; else what follows
 abbrev pub unless : {A : Type 0} → Bool → A → A → A

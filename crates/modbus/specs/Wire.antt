@@ -1,10 +1,9 @@
 -- The serial wrapping (01, 'Modbus' and 'Numbered answers'): a message and its checksum, a reply's bytes, and a lent room.
 -- Assumes nothing: these are definitions.
-use Prim.Native.Nat.{ℕ, _+_, _*_, _%_, _≤_}
-use mathlib.Core.Path.{_≡_}
+use Prim.Native.Nat.{ℕ, _+_, _*_, _%_}
 use mathlib.Core.List.{List, [], _∷_, _++_}
 use lib.Dec.{leb}
-use lib.ListN.{length, take, drop}
+use lib.ListN.{length, drop}
 use Rattle.places.specs.Bytes.{pair}
 use Rattle.crc.specs.Crc.{passesOf, sealed, unsealed}
 use Rattle.modbus.specs.Mapping.{unless, within, readOf}
@@ -14,7 +13,6 @@ use Rattle.modbus.specs.declared.Reply.{Reply}
 use Rattle.modbus.specs.declared.Reply.the-variants.{Exception, Value, Offset, Zero, Whole}
 use Rattle.modbus.specs.declared.Written.{Written}
 use Rattle.modbus.specs.declared.Written.the-variants.{Count, Refused}
-use Rattle.modbus.specs.declared.body.Body.{Body}
 
 -- "Order of checks: length 4 to 256; checksum;" and then those of the body
 unfoldable pub requestOf : List ℕ → Reading
@@ -42,9 +40,3 @@ writtenOf r room = unless (leb 16 (length room)) (Refused 15) (Count (length (by
 
 unfoldable pub roomOf : Reply → List ℕ → List ℕ
 roomOf r room = unless (leb 16 (length room)) room (placed (bytesOf r) room)
-
--- a small array that holds the list in front
-pub record Holds (b : Body) (l : List ℕ) : Type 0 where
-  pub few : b .count ≤ 8
-  pub all : length (b .bytes) ≡ 8
-  pub are : take (b .count) (b .bytes) ≡ l

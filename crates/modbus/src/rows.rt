@@ -1,24 +1,6 @@
-// The rows of the mapping, in 01's order, and the look-up.
+// The words of the mapping's rows, and of what a look-up in them gives.
 use crate::Form;
-use crate::Form::Never;
-use crate::Form::OffsetOne;
-use crate::Form::OffsetValue;
-use crate::Form::Value;
-use crate::Form::ValueOfInvalid;
-use crate::Form::Whole;
-use crate::Form::Zero;
 use crate::QuestionType;
-use crate::QuestionType::InvalidData;
-use crate::QuestionType::ReadData;
-use crate::QuestionType::WriteData;
-use crate::rows::Asks::Always;
-use crate::rows::Asks::ByMessage;
-use crate::rows::Page::Any;
-use crate::rows::Page::At;
-use crate::shape::Fields;
-use crate::shape::offset;
-ghost use mathlib.Core.Path.{_≡_};
-ghost use Rattle.modbus.specs.Mapping.{rows, fitsOf, onOf, firstOf};
 
 // The offset's high byte.
 pub enum Page {
@@ -40,56 +22,8 @@ pub enum Found {
     Nothing,
 }
 
-const ROWS: [Row; 11] = [
-    Row(0x03, 1, 0, Any, Always(ReadData), Value),
-    Row(0x04, 1, 0, Any, Always(ReadData), Value),
-    Row(0x06, 0, 1, Any, Always(WriteData), OffsetValue),
-    Row(0x10, 0, 1, Any, Always(WriteData), OffsetOne),
-    Row(0x17, 1, 0, Any, Always(ReadData), Value),
-    Row(0x17, 0, 1, At(0x00), Always(WriteData), Zero),
-    Row(0x17, 0, 1, At(0x02), Always(InvalidData), Never),
-    Row(0x17, 1, 1, At(0x00), Always(ReadData), Value),
-    Row(0x17, 1, 1, At(0x01), Always(WriteData), Value),
-    Row(0x17, 1, 1, At(0x02), Always(InvalidData), ValueOfInvalid),
-    Row(0x41, 0, 1, At(0x00), ByMessage, Whole),
-];
-
-fn on(p: Page, high: u16) -> bool
-    ensures { λ r. ⌜ r ≡ onOf p high ⌝ }
-{
-    match p {
-        Page::Any => true,
-        Page::At(h) => (h as u16) == high,
-    }
-}
-
-fn fits(r: Row, a: Fields) -> bool
-    ensures { λ t. ⌜ t ≡ fitsOf r a ⌝ }
-{
-    if r.0 != a.function {
-        return false;
-    }
-    if r.1 != a.reads {
-        return false;
-    }
-    if r.2 != a.writes {
-        return false;
-    }
-    let page = r.3;
-    on(page, offset(a) / 256)
-}
-
-// The first row that fits.
-pub(crate) fn find(a: Fields) -> Found
-    ensures { λ r. ⌜ r ≡ firstOf rows a ⌝ }
-{
-    let mut i: usize = 0;
-    while i < 11 {
-        let r = ROWS[i];
-        if fits(r, a) {
-            return Found::First(r);
-        }
-        i += 1;
-    }
-    Found::Nothing
+// What a row and the message field give for a type.
+pub enum Typed {
+    Known(QuestionType),
+    Unnamed,
 }

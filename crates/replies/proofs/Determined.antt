@@ -1,0 +1,20 @@
+-- Nothing is left open by a contract of this crate: two results that it allows, and two rooms at exit, are equal.
+-- Assumes nothing.
+use mathlib.Core.Path.{sym, _∙_}
+use denote.Ref.{now}
+use Rattle.word.proofs.One.{One, OneRoom}
+use Rattle.replies.proofs.busy.Reads as busy-reads
+use Rattle.replies.proofs.busy.Kinds as busy-kinds
+use Rattle.replies.proofs.answer.Reads as answer-reads
+use Rattle.replies.proofs.answer.Kinds as answer-kinds
+use Rattle.replies.proofs.write.Reads as write-reads
+use Rattle.replies.proofs.write.Kinds as write-kinds
+
+pub busy-one : One busy-kinds.ps busy-kinds.r busy-reads.Post
+busy-one κs a u v x y p q = p ∙ sym q
+
+pub answer-one : One answer-kinds.ps answer-kinds.r answer-reads.Post
+answer-one κs a u v x y p q = p ∙ sym q
+
+pub write-one : OneRoom write-kinds.ps write-kinds.r write-reads.Post (λ κs x. now (x .1 .0))
+write-one κs a u v x y p q = (p .0 ∙ sym (q .0), p .1 ∙ sym (q .1))

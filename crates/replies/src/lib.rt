@@ -1,0 +1,56 @@
+// Modbus replies: what an order's outcome becomes, and a reply written into a lent room.
+mod answers;
+mod body;
+
+use crate::answers::answered;
+use crate::answers::exception;
+use crate::body::body_of;
+use crate::body::high;
+use crate::body::low;
+use crate::body::put;
+use modbus::Order;
+use modbus::Outcome;
+use modbus::Reply;
+use modbus::Written;
+ghost use mathlib.Core.Path.{_≡_};
+ghost use Rattle.modbus.specs.Outcomes.{answerOf, busyOf};
+ghost use Rattle.modbus.specs.Wire.{writtenOf, roomOf};
+
+// The reply where an order already waits.
+pub fn busy(o: Order) -> Reply
+    ensures { λ r. ⌜ r ≡ busyOf o ⌝ }
+{
+    exception(o, 0x06)
+}
+
+// The reply to an order, from what it came to.
+pub fn answer(o: Order, w: Outcome) -> Reply
+    ensures { λ r. ⌜ r ≡ answerOf o w ⌝ }
+{
+    match w {
+        Outcome::Answer(t, value) => {
+            let form = o.form;
+            answered(form, o, t, value)
+        }
+        Outcome::NoAnswer => exception(o, 0x0b),
+    }
+}
+
+// A reply, with its checksum, in front of a room.
+pub fn write(r: Reply, room: &mut [u8]) -> Written
+    ensures { λ w. ⌜ (w ≡ writtenOf r (now (room .entry))) × (now (room .exit) ≡ roomOf r (now (room .entry))) ⌝ }
+{
+    if room.len() < 16 {
+        return Written::Refused(15);
+    }
+    let body = body_of(r);
+    let bytes = body.bytes;
+    let n = body.count;
+    let c = crc::checksum(&bytes[..n]);
+    let first = low(c);
+    let second = high(c);
+    put(&bytes[..n], room);
+    room[n] = first;
+    room[n + 1] = second;
+    Written::Count(n + 2)
+}
