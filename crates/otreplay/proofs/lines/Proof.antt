@@ -36,7 +36,9 @@ held-line-requires : tie.Need-held-line-requires Inv-loop μ-loop
 held-line-requires c κs = search needs
 
 add-from : tie.Need-add-from Inv-loop μ-loop
-add-from c = omega (arith, c .before .before .before .before .before .before .before .before .before .before .before .line-end .ensures .1, c .before .before .before .before .before .before .before .before .before .before .before .before .before .before .before .before .before .good)
+add-from c =
+    let at = c .before .before .before .before .before .before .before .before .before .before .before in
+    omega (arith, at .line-end .ensures .1, at .before .before .before .before .before .before .good)
 
 loop-less : tie.Need-loop-less Inv-loop μ-loop
 loop-less c = search needs
