@@ -1,17 +1,23 @@
-// The box on the desk: its time in ticks, and the size of the rooms that are lent to it.
-use crate::parse::Event;
-use crate::trace;
+// The box on the desk: what an event of the script does to it, and the trace of that. Functions that have the box in hand go
+// straight on, wherever they can: what they depend on is found out by small functions that haven't.
 use gateway::Asked;
 use gateway::Gateway;
+use gateway::Moved;
+use gateway::Out;
+use gateway::Outs;
 use gateway::Told;
 use print::print;
+use script::Event;
 use text::Text;
 use word::Frame;
+ghost use Prim.Native.Nat.{_≤_};
 
+// The box, its time in ticks, the size of the rooms that are lent to it, and how much is held of the script's line under way.
 pub(crate) struct Desk {
     pub gateway: Gateway,
     pub time: u64,
     pub lent: usize,
+    pub used: usize,
 }
 
 pub(crate) fn fresh() -> Desk {
@@ -19,7 +25,15 @@ pub(crate) fn fresh() -> Desk {
         gateway: Gateway::fresh(),
         time: 0,
         lent: 256,
+        used: 0,
     }
+}
+
+// So many, or all there are.
+fn at_most(n: usize, all: usize) -> usize
+    ensures { λ r. ⌜ r ≤ all ⌝ }
+{
+    if n < all { n } else { all }
 }
 
 // The time after what was told to a tick: a refused tick passes none.
@@ -30,39 +44,49 @@ fn passed(time: u64, told: Told) -> u64 {
     }
 }
 
-fn tick(d: Desk, room: &mut [u8]) -> Desk {
-    let gateway = d.gateway;
-    let t = gateway.tick(room);
+fn sent(time: u64, line: u8, out: Out) {
+    if let Out::Sent(_, frame) = out {
+        print(trace::sent(time, line, frame));
+    }
+}
+
+// What goes out in a tick, by line 1 to 4, and what is told; gives the time after it.
+fn ticked(before: u64, o: Outs, told: Told, room: &[u8]) -> u64 {
+    let time = passed(before, told);
+    let one = o.one;
+    let two = o.two;
+    let three = o.three;
+    let four = o.four;
+    sent(time, 1, one);
+    sent(time, 2, two);
+    sent(time, 3, three);
+    sent(time, 4, four);
+    print(trace::told(time, 0, told, room));
+    time
+}
+
+fn tick(mut d: Desk, room: &mut [u8]) -> Desk {
+    let t = d.gateway.tick(room);
     let told = t.told;
     let outs = t.outs;
     let next = t.gateway;
-    let time = passed(d.time, told);
-    trace::outs(time, outs);
-    trace::told(time, 0, told, room);
-    Desk {
-        gateway: next,
-        time: time,
-        lent: d.lent,
-    }
+    d.time = ticked(d.time, outs, told, room);
+    d.gateway = next;
+    d
 }
 
 // Whether a tick would change nothing but the time: the box has nothing to do, and its room is large enough.
 fn at_rest(d: Desk) -> bool {
-    let gateway = d.gateway;
     if d.lent < Gateway::ROOM {
         return false;
     }
-    gateway.idle()
+    d.gateway.idle()
 }
 
 // So many ticks that change nothing but the time.
-fn pass(d: Desk, n: u32) -> Desk {
-    let gateway = d.gateway;
-    Desk {
-        gateway: gateway,
-        time: std::num::wrapping_add_u64(d.time, n as u64),
-        lent: d.lent,
-    }
+fn pass(mut d: Desk, n: u32) -> Desk {
+    d.time = std::num::wrapping_add_u64(d.time, n as u64);
+    d
 }
 
 fn ticks(d: Desk, n: u32, room: &mut [u8]) -> Desk {
@@ -78,91 +102,81 @@ fn ticks(d: Desk, n: u32, room: &mut [u8]) -> Desk {
     desk
 }
 
-fn with_gateway(d: Desk, gateway: Gateway) -> Desk {
-    Desk {
-        gateway: gateway,
-        time: d.time,
-        lent: d.lent,
+// How many ticks an event is.
+fn ticks_in(e: Event) -> u32 {
+    match e {
+        Event::Ticks(n) => n,
+        _ => 0,
     }
 }
 
-fn thermostat(d: Desk, line: u8, word: u32, room: &[u8]) -> Desk {
-    let gateway = d.gateway;
-    let m = gateway.thermostat(line, Frame { word: word });
-    let told = m.told;
-    let next = m.gateway;
-    trace::told(d.time, line, told, room);
-    with_gateway(d, next)
-}
-
-fn boiler(d: Desk, line: u8, word: u32, room: &mut [u8]) -> Desk {
-    let gateway = d.gateway;
-    let m = gateway.boiler(line, Frame { word: word }, room);
-    let told = m.told;
-    let next = m.gateway;
-    trace::told(d.time, line, told, room);
-    with_gateway(d, next)
+// A frame or a message; a message's bytes stand in front of `bytes`. Nothing moves at any other event.
+fn moved(gateway: Gateway, e: Event, bytes: &[u8], room: &mut [u8]) -> Moved {
+    match e {
+        Event::Thermostat(line, word) => gateway.thermostat(line, Frame { word: word }),
+        Event::Boiler(line, word) => gateway.boiler(line, Frame { word: word }, room),
+        Event::Message(count) => {
+            let n = at_most(count, bytes.len());
+            gateway.message(&bytes[..n], room)
+        }
+        _ => Moved {
+            gateway: gateway,
+            told: Told::Quiet,
+        },
+    }
 }
 
 // The line of the order under way.
-fn line_of(asked: Asked) -> u8 {
+fn line_asked(asked: Asked) -> u8 {
     match asked {
         Asked::Nothing => 0,
         Asked::Waits(o) => o.line,
     }
 }
 
-fn message(d: Desk, bytes: &[u8], room: &mut [u8]) -> Desk {
-    let gateway = d.gateway;
-    let m = gateway.message(bytes, room);
+// The line that an event is about: a frame's own, or that of the order which a message became.
+fn line_of(e: Event, asked: Asked) -> u8 {
+    match e {
+        Event::Thermostat(line, _) => line,
+        Event::Boiler(line, _) => line,
+        _ => line_asked(asked),
+    }
+}
+
+// The size of the rooms that are lent after an event.
+fn lent_after(e: Event, lent: usize) -> usize {
+    match e {
+        Event::Room(n) => n,
+        _ => lent,
+    }
+}
+
+fn wrong(e: Event) {
+    if let Event::Wrong = e {
+        print(Text::empty().put(b"- line\n"));
+    }
+}
+
+fn show(time: u64, e: Event, asked: Asked, told: Told, room: &[u8]) {
+    wrong(e);
+    print(trace::told(time, line_of(e, asked), told, room));
+}
+
+// An event that is no ticks.
+fn play(mut d: Desk, e: Event, bytes: &[u8], room: &mut [u8]) -> Desk {
+    let m = moved(d.gateway, e, bytes, room);
     let told = m.told;
     let next = m.gateway;
     let asked = next.asked;
-    trace::told(d.time, line_of(asked), told, room);
-    with_gateway(d, next)
-}
-
-fn lends(d: Desk, n: usize) -> Desk {
-    let gateway = d.gateway;
-    Desk {
-        gateway: gateway,
-        time: d.time,
-        lent: n,
-    }
-}
-
-pub(crate) fn wrong() {
-    print(Text::empty().put(b"- line\n"));
-}
-
-// An event; a message's bytes stand in front of `bytes`.
-fn play(d: Desk, e: Event, bytes: &[u8], room: &mut [u8]) -> Desk {
-    match e {
-        Event::Skip => d,
-        Event::Wrong => {
-            wrong();
-            d
-        }
-        Event::Ticks(n) => ticks(d, n, room),
-        Event::Thermostat(line, word) => thermostat(d, line, word, room),
-        Event::Boiler(line, word) => boiler(d, line, word, room),
-        Event::Message(count) => {
-            if count <= bytes.len() {
-                message(d, &bytes[..count], room)
-            } else {
-                d
-            }
-        }
-        Event::Room(n) => lends(d, n),
-    }
+    show(d.time, e, asked, told, room);
+    d.gateway = next;
+    d.lent = lent_after(e, d.lent);
+    d
 }
 
 // An event, with as much of the room lent as the desk says.
 pub(crate) fn happens(d: Desk, e: Event, bytes: &[u8], room: &mut [u8]) -> Desk {
-    let n = d.lent;
-    if n <= room.len() {
-        play(d, e, bytes, &mut room[..n])
-    } else {
-        d
-    }
+    let n = at_most(d.lent, room.len());
+    let after = ticks(d, ticks_in(e), &mut room[..n]);
+    play(after, e, bytes, &mut room[..n])
 }

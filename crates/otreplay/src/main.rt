@@ -1,19 +1,11 @@
 // otreplay: a script of events on standard input, a trace on standard output.
 mod desk;
-mod parse;
-mod trace;
 
 use desk::Desk;
 use libc::STDIN_FILENO;
-ghost use Prim.Native.Nat.{_≤_};
+use script::Event;
+ghost use Prim.Native.Nat.{_≤_, _<_};
 ghost use lib.ListN.{length};
-
-// Where the reading stands: how much of a line is held (1,025: too much), and whether there may be more to read.
-struct Place {
-    desk: Desk,
-    used: usize,
-    more: bool,
-}
 
 const LONGEST: usize = 1024;
 
@@ -47,84 +39,72 @@ fn append(held: &mut [u8], used: usize, part: &[u8]) -> usize {
     at
 }
 
-// A whole line of the script.
-fn whole(d: Desk, held: &[u8], used: usize, room: &mut [u8]) -> Desk {
-    if held.len() < used {
-        desk::wrong();
-        return d;
+// What is held of a line: it is read where the line has ended, and kept where it hasn't.
+fn event(held: &[u8], used: usize, ended: bool, bytes: &mut [u8]) -> Event {
+    if !ended {
+        return Event::Skip;
     }
+    if held.len() < used {
+        return Event::Wrong;
+    }
+    script::event_of(&held[..used], bytes)
+}
+
+// How much of a line is held after that.
+fn kept(used: usize, ended: bool) -> usize {
+    if ended { 0 } else { used }
+}
+
+// What is held of a line is played, if the line has ended.
+fn held_line(mut d: Desk, used: usize, ended: bool, held: &[u8], room: &mut [u8]) -> Desk {
     let mut bytes = [0u8; 300];
-    let e = parse::event_of(&held[..used], &mut bytes);
+    let e = event(held, used, ended, &mut bytes);
+    d.used = kept(used, ended);
     desk::happens(d, e, &bytes, room)
 }
 
-// What is held of a line: it is played where the line has ended, and kept where it hasn't.
-fn held_line(d: Desk, used: usize, ended: bool, held: &[u8], room: &mut [u8]) -> Place {
-    if !ended {
-        return Place {
-            desk: d,
-            used: used,
-            more: true,
-        };
-    }
-    Place {
-        desk: whole(d, held, used, room),
-        used: 0,
-        more: true,
-    }
-}
-
 // The lines that end in a block, and the part of one behind them.
-fn lines(first: Place, block: &[u8], held: &mut [u8], room: &mut [u8]) -> Place {
-    let mut place = first;
+fn lines(first: Desk, block: &[u8], held: &mut [u8], room: &mut [u8]) -> Desk {
+    let mut desk = first;
     let mut from = 0;
     while from < block.len() {
         let to = line_end(block, from);
-        let used = append(held, place.used, &block[from..to]);
-        let desk = place.desk;
-        place = held_line(desk, used, to < block.len(), held, room);
+        let used = append(held, desk.used, &block[from..to]);
+        desk = held_line(desk, used, to < block.len(), held, room);
         from = to + 1;
     }
-    place
+    desk
 }
 
-fn next(place: Place, held: &mut [u8], room: &mut [u8]) -> Place {
-    let mut block = io::buffer();
-    let got = libc::read(STDIN_FILENO, &mut block);
-    let n = io::count(got, &block);
-    if 0 < n {
-        return lines(place, &block[..n], held, room);
-    }
-    let desk = place.desk;
-    if 0 < place.used {
-        return Place {
-            desk: whole(desk, held, place.used, room),
-            used: 0,
-            more: false,
-        };
-    }
-    Place {
-        desk: desk,
-        used: 0,
-        more: false,
-    }
+// The next bytes of the input, in front of a block; none at its end.
+fn read(block: &mut [u8]) -> usize
+    ensures { λ r. ⌜ r ≤ length (now (block .entry)) ⌝ }
+{
+    let got = libc::read(STDIN_FILENO, block);
+    io::count(got, block)
+}
+
+// The turns that are left after one that read so many bytes: none at the end of the input.
+fn left(turns: u64, n: usize) -> u64
+    requires { ⌜ 0 < turns ⌝ }
+    ensures { λ r. ⌜ r < turns ⌝ }
+{
+    if n == 0 { 0 } else { turns - 1 }
 }
 
 // A proved loop has to end, and nothing says that the input does: the turns count down from a number that no run uses up.
+// A last line without an end counts as a line, if it has a byte.
 fn main() {
     let mut held = [0u8; LONGEST];
     let mut room = [0u8; 300];
-    let mut place = Place {
-        desk: desk::fresh(),
-        used: 0,
-        more: true,
-    };
+    let mut block = io::buffer();
+    let mut desk = desk::fresh();
     let mut turns = u64::MAX;
     while turns > 0 {
-        place = next(place, &mut held, &mut room);
-        if !place.more {
-            return;
-        }
-        turns -= 1;
+        let n = read(&mut block);
+        desk = lines(desk, &block[..n], &mut held, &mut room);
+        turns = left(turns, n);
     }
+    let used = desk.used;
+    held_line(desk, used, 0 < used, &held, &mut room);
 }

@@ -9,10 +9,10 @@ use Rattle.otreplay.proofs.lines.Statement.{statement}
 use Rattle.otreplay.proofs.lines.Tie as tie
 
 abbrev Inv-loop : tie.InvT-loop
-Inv-loop block held₀ room₀ place₀ from₀ held room place from = (length held ≡ length held₀) × (length room ≡ length room₀)
+Inv-loop block held₀ room₀ desk₀ from₀ held room desk from = (length held ≡ length held₀) × (length room ≡ length room₀)
 
 abbrev μ-loop : tie.MeasureT-loop
-μ-loop block held₀ room₀ place₀ from₀ held room place from = length block - from
+μ-loop block held₀ room₀ desk₀ from₀ held room desk from = length block - from
 
 loop-holds : tie.Need-loop-holds Inv-loop μ-loop
 loop-holds c = search needs
@@ -36,9 +36,7 @@ held-line-requires : tie.Need-held-line-requires Inv-loop μ-loop
 held-line-requires c κs = search needs
 
 add-from : tie.Need-add-from Inv-loop μ-loop
-add-from c =
-    let at = c .before .before .before .before .before .before .before .before .before .before .before in
-    omega (arith, at .line-end .ensures .1, at .before .before .before .before .before .before .good)
+add-from c = search needs
 
 loop-less : tie.Need-loop-less Inv-loop μ-loop
 loop-less c = search needs

@@ -1,16 +1,21 @@
 -- `otreplay::main` is safe and ends. The measure is the number of turns that are left.
 -- Assumes nothing.
+use native.Mathlib.Omega.{arith}
 use borrow.Author.Needs.{needs}
-use mathlib.Core.Path.{_≡_}
+use mathlib.Core.Path.{_≡_, sym}
 use lib.ListN.{length}
+use lib.Seq.{length-take-le}
 use Rattle.otreplay.proofs.main.Statement.{statement}
 use Rattle.otreplay.proofs.main.Tie as tie
 
 abbrev Inv-loop : tie.InvT-loop
-Inv-loop held₀ room₀ place₀ turns₀ held room place turns = (length held ≡ 1024) × (length room ≡ 300)
+Inv-loop held₀ room₀ block₀ desk₀ turns₀ held room block desk turns = (length held ≡ 1024) × (length room ≡ 300) × (length block ≡ 4096)
 
 abbrev μ-loop : tie.MeasureT-loop
-μ-loop held₀ room₀ place₀ turns₀ held room place turns = turns
+μ-loop held₀ room₀ block₀ desk₀ turns₀ held room block desk turns = turns
+
+buffer-requires : tie.Need-buffer-requires Inv-loop μ-loop
+buffer-requires c κs = search needs
 
 fresh-requires : tie.Need-fresh-requires Inv-loop μ-loop
 fresh-requires c κs = search needs
@@ -18,20 +23,29 @@ fresh-requires c κs = search needs
 loop-holds : tie.Need-loop-holds Inv-loop μ-loop
 loop-holds c = search needs
 
-slice-aggregate-next : tie.Need-slice-aggregate-next Inv-loop μ-loop
-slice-aggregate-next c = search needs
+slice-aggregate-read : tie.Need-slice-aggregate-read Inv-loop μ-loop
+slice-aggregate-read c = search needs
 
-slice-aggregate-next-2 : tie.Need-slice-aggregate-next-2 Inv-loop μ-loop
-slice-aggregate-next-2 c = search needs
+read-requires : tie.Need-read-requires Inv-loop μ-loop
+read-requires c κs = search needs
 
-next-requires : tie.Need-next-requires Inv-loop μ-loop
-next-requires c κs = search needs
+array-share-prefix-block : tie.Need-array-share-prefix-block Inv-loop μ-loop
+array-share-prefix-block c = search needs
 
-returns : tie.Need-returns Inv-loop μ-loop
-returns c = search needs
+slice-aggregate-lines : tie.Need-slice-aggregate-lines Inv-loop μ-loop
+slice-aggregate-lines c = sym (length-take-le _ _ (omega arith))
 
-sub-turns : tie.Need-sub-turns Inv-loop μ-loop
-sub-turns c = search needs
+slice-aggregate-lines-2 : tie.Need-slice-aggregate-lines-2 Inv-loop μ-loop
+slice-aggregate-lines-2 c = search needs
+
+slice-aggregate-lines-3 : tie.Need-slice-aggregate-lines-3 Inv-loop μ-loop
+slice-aggregate-lines-3 c = search needs
+
+lines-requires : tie.Need-lines-requires Inv-loop μ-loop
+lines-requires c κs = search needs
+
+left-requires : tie.Need-left-requires Inv-loop μ-loop
+left-requires c κs = search needs
 
 loop-less : tie.Need-loop-less Inv-loop μ-loop
 loop-less c = search needs
@@ -39,8 +53,17 @@ loop-less c = search needs
 loop-again : tie.Need-loop-again Inv-loop μ-loop
 loop-again c = search needs
 
-returns-2 : tie.Need-returns-2 Inv-loop μ-loop
-returns-2 c = search needs
+slice-aggregate-held-line : tie.Need-slice-aggregate-held-line Inv-loop μ-loop
+slice-aggregate-held-line c = search needs
+
+slice-aggregate-held-line-2 : tie.Need-slice-aggregate-held-line-2 Inv-loop μ-loop
+slice-aggregate-held-line-2 c = search needs
+
+held-line-requires : tie.Need-held-line-requires Inv-loop μ-loop
+held-line-requires c κs = search needs
+
+returns : tie.Need-returns Inv-loop μ-loop
+returns c = search needs
 
 pub main-spec : {M : Type 1} → statement M
 main-spec =
@@ -48,13 +71,20 @@ main-spec =
     (tie.spec
     Inv-loop
     μ-loop
+    buffer-requires
     fresh-requires
     loop-holds
-    slice-aggregate-next
-    slice-aggregate-next-2
-    next-requires
-    returns
-    sub-turns
+    slice-aggregate-read
+    read-requires
+    array-share-prefix-block
+    slice-aggregate-lines
+    slice-aggregate-lines-2
+    slice-aggregate-lines-3
+    lines-requires
+    left-requires
     loop-less
     loop-again
-    returns-2)
+    slice-aggregate-held-line
+    slice-aggregate-held-line-2
+    held-line-requires
+    returns)

@@ -7,6 +7,21 @@ use lib.Seq.{length-take-le}
 use Rattle.otreplay.proofs.desk.happens.Statement.{statement}
 use Rattle.otreplay.proofs.desk.happens.Tie as tie
 
+at-most-requires : tie.Need-at-most-requires
+at-most-requires c κs = search needs
+
+ticks-in-requires : tie.Need-ticks-in-requires
+ticks-in-requires c κs = search needs
+
+slice-relend-prefix-ticks : tie.Need-slice-relend-prefix-ticks
+slice-relend-prefix-ticks c = search needs
+
+slice-aggregate-ticks : tie.Need-slice-aggregate-ticks
+slice-aggregate-ticks c = sym (length-take-le _ _ (omega arith))
+
+ticks-requires : tie.Need-ticks-requires
+ticks-requires c κs = search needs
+
 slice-relend-prefix-play : tie.Need-slice-relend-prefix-play
 slice-relend-prefix-play c = search needs
 
@@ -22,16 +37,17 @@ same-length c = search needs
 returns : tie.Need-returns
 returns c = search needs
 
-returns-2 : tie.Need-returns-2
-returns-2 c = search needs
-
 pub happens-spec : {M : Type 1} → statement M
 happens-spec =
     tie.close
     (tie.spec
+    at-most-requires
+    ticks-in-requires
+    slice-relend-prefix-ticks
+    slice-aggregate-ticks
+    ticks-requires
     slice-relend-prefix-play
     slice-aggregate-play
     play-requires
     same-length
-    returns
-    returns-2)
+    returns)

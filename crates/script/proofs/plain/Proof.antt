@@ -1,0 +1,280 @@
+-- `script::plain` meets its contract: each return is the case that its tests leave.
+-- Assumes nothing.
+use mathlib.Core.Path.{sym, ap, _∙_}
+use mathlib.Core.Bool.{true, false, and-false}
+use native.Mathlib.Omega.{arith}
+use borrow.Author.Needs.{needs}
+use borrow.Author.Tests.{eq-eqb, ne-eqb}
+use Rattle.script.specs.Lines.{tick, thermostat, boiler, room, ticksOf, roomOf, frameOf, plainOf}
+use Rattle.script.proofs.Fields.{part, long}
+use Rattle.script.proofs.plain.Statement.{statement}
+use Rattle.script.proofs.plain.Tie as tie
+
+returns : tie.Need-returns
+unfolding plainOf
+returns c = rw (eq-eqb _ _ (c .if1 .taken))
+
+slice-aggregate-begins : tie.Need-slice-aggregate-begins
+slice-aggregate-begins c = search needs
+
+begins-requires : tie.Need-begins-requires
+begins-requires c κs = search needs
+
+returns-2 : tie.Need-returns-2
+unfolding plainOf
+returns-2 c =
+    rw (
+      ne-eqb _ _ (c .before .before .before .if1 .left),
+      ← c .before .begins .ensures,
+      c .if2 .taken,
+    )
+
+slice-aggregate-begins-2 : tie.Need-slice-aggregate-begins-2
+slice-aggregate-begins-2 c = search needs
+
+begins-requires-2 : tie.Need-begins-requires-2
+begins-requires-2 c κs = search needs
+
+sub-ticks : tie.Need-sub-ticks
+sub-ticks c =
+    let h = long tick (c .before .before .before .before .before .before .before .before .args .line .now) (sym (c .before .begins2 .ensures) ∙ c .if3 .taken) in
+    omega arith
+
+part-ticks-start : tie.Need-part-ticks-start
+part-ticks-start c =
+    let h = long tick (c .before .before .before .before .before .before .before .before .args .line .now) (sym (c .before .begins2 .ensures) ∙ c .if3 .taken) in
+    omega arith
+
+part-ticks-end : tie.Need-part-ticks-end
+part-ticks-end c = search needs
+
+ticks-requires : tie.Need-ticks-requires
+ticks-requires c κs = search needs
+
+returns-3 : tie.Need-returns-3
+unfolding plainOf
+returns-3 c =
+    rw (
+      ne-eqb _ _ (c .before .before .before .before .before .before .before .before .if1 .left),
+      ← c .before .before .before .before .before .before .begins .ensures,
+      c .before .before .before .before .before .if2 .left,
+      ← c .before .before .before .begins2 .ensures,
+      c .before .before .if3 .taken,
+    ) (c .ticks .ensures ∙ ap ticksOf (part 5 (c .before .before .before .before .before .before .before .before .before .before .args .line .now)))
+
+slice-aggregate-begins-3 : tie.Need-slice-aggregate-begins-3
+slice-aggregate-begins-3 c = search needs
+
+begins-requires-3 : tie.Need-begins-requires-3
+begins-requires-3 c κs = search needs
+
+sub-frame : tie.Need-sub-frame
+sub-frame c =
+    let h = long thermostat (c .before .before .before .before .before .before .before .before .before .before .before .args .line .now) (sym (c .before .begins3 .ensures) ∙ c .if4 .taken) in
+    omega arith
+
+part-frame-start : tie.Need-part-frame-start
+part-frame-start c =
+    let h = long thermostat (c .before .before .before .before .before .before .before .before .before .before .before .args .line .now) (sym (c .before .begins3 .ensures) ∙ c .if4 .taken) in
+    omega arith
+
+part-frame-end : tie.Need-part-frame-end
+part-frame-end c = search needs
+
+frame-requires : tie.Need-frame-requires
+frame-requires c κs = search needs
+
+returns-4 : tie.Need-returns-4
+unfolding plainOf
+returns-4 c =
+    rw (
+      ne-eqb _ _ (c .before .before .before .before .before .before .before .before .before .before .before .if1 .left),
+      ← c .before .before .before .before .before .before .before .before .before .begins .ensures,
+      c .before .before .before .before .before .before .before .before .if2 .left,
+      ← c .before .before .before .before .before .before .begins2 .ensures,
+      c .before .before .before .before .before .if3 .left,
+      ← c .before .before .before .begins3 .ensures,
+      c .before .before .if4 .taken,
+    ) (c .frame .ensures ∙ ap (frameOf false) (part 11 (c .before .before .before .before .before .before .before .before .before .before .before .before .before .args .line .now)))
+
+slice-aggregate-begins-4 : tie.Need-slice-aggregate-begins-4
+slice-aggregate-begins-4 c = search needs
+
+begins-requires-4 : tie.Need-begins-requires-4
+begins-requires-4 c κs = search needs
+
+sub-frame-2 : tie.Need-sub-frame-2
+sub-frame-2 c =
+    let h = long boiler (c .before .before .before .before .before .before .before .before .before .before .before .before .before .before .args .line .now) (sym (c .before .begins4 .ensures) ∙ c .if5 .taken) in
+    omega arith
+
+part-frame-start-2 : tie.Need-part-frame-start-2
+part-frame-start-2 c =
+    let h = long boiler (c .before .before .before .before .before .before .before .before .before .before .before .before .before .before .args .line .now) (sym (c .before .begins4 .ensures) ∙ c .if5 .taken) in
+    omega arith
+
+part-frame-end-2 : tie.Need-part-frame-end-2
+part-frame-end-2 c = search needs
+
+frame-requires-2 : tie.Need-frame-requires-2
+frame-requires-2 c κs = search needs
+
+returns-5 : tie.Need-returns-5
+unfolding plainOf
+returns-5 c =
+    rw (
+      ne-eqb _ _ (c .before .before .before .before .before .before .before .before .before .before .before .before .before .before .if1 .left),
+      ← c .before .before .before .before .before .before .before .before .before .before .before .before .begins .ensures,
+      c .before .before .before .before .before .before .before .before .before .before .before .if2 .left,
+      ← c .before .before .before .before .before .before .before .before .before .begins2 .ensures,
+      c .before .before .before .before .before .before .before .before .if3 .left,
+      ← c .before .before .before .before .before .before .begins3 .ensures,
+      c .before .before .before .before .before .if4 .left,
+      ← c .before .before .before .begins4 .ensures,
+      c .before .before .if5 .taken,
+    ) (c .frame2 .ensures ∙ ap (frameOf true) (part 7 (c .before .before .before .before .before .before .before .before .before .before .before .before .before .before .before .before .args .line .now)))
+
+slice-aggregate-begins-5 : tie.Need-slice-aggregate-begins-5
+slice-aggregate-begins-5 c = search needs
+
+begins-requires-5 : tie.Need-begins-requires-5
+begins-requires-5 c κs = search needs
+
+sub-room : tie.Need-sub-room
+sub-room c =
+    let h = long room (c .before .before .before .before .before .before .before .before .before .before .before .before .before .before .before .before .before .args .line .now) (sym (c .before .begins5 .ensures) ∙ c .if6 .taken) in
+    omega arith
+
+part-room-start : tie.Need-part-room-start
+part-room-start c =
+    let h = long room (c .before .before .before .before .before .before .before .before .before .before .before .before .before .before .before .before .before .args .line .now) (sym (c .before .begins5 .ensures) ∙ c .if6 .taken) in
+    omega arith
+
+part-room-end : tie.Need-part-room-end
+part-room-end c = search needs
+
+room-requires : tie.Need-room-requires
+room-requires c κs = search needs
+
+returns-6 : tie.Need-returns-6
+unfolding plainOf
+returns-6 c =
+    rw (
+      ne-eqb _ _ (c .before .before .before .before .before .before .before .before .before .before .before .before .before .before .before .before .before .if1 .left),
+      ← c .before .before .before .before .before .before .before .before .before .before .before .before .before .before .before .begins .ensures,
+      c .before .before .before .before .before .before .before .before .before .before .before .before .before .before .if2 .left,
+      ← c .before .before .before .before .before .before .before .before .before .before .before .before .begins2 .ensures,
+      c .before .before .before .before .before .before .before .before .before .before .before .if3 .left,
+      ← c .before .before .before .before .before .before .before .before .before .begins3 .ensures,
+      c .before .before .before .before .before .before .before .before .if4 .left,
+      ← c .before .before .before .before .before .before .begins4 .ensures,
+      c .before .before .before .before .before .if5 .left,
+      ← c .before .before .before .begins5 .ensures,
+      c .before .before .if6 .taken,
+    ) (c .room .ensures ∙ ap roomOf (part 5 (c .before .before .before .before .before .before .before .before .before .before .before .before .before .before .before .before .before .before .before .args .line .now)))
+
+returns-7 : tie.Need-returns-7
+unfolding plainOf
+returns-7 c =
+    rw (
+      ne-eqb _ _ (c .before .before .before .before .before .before .before .before .before .before .before .before .before .before .before .before .if1 .left),
+      ← c .before .before .before .before .before .before .before .before .before .before .before .before .before .before .begins .ensures,
+      c .before .before .before .before .before .before .before .before .before .before .before .before .before .if2 .left,
+      ← c .before .before .before .before .before .before .before .before .before .before .before .begins2 .ensures,
+      c .before .before .before .before .before .before .before .before .before .before .if3 .left,
+      ← c .before .before .before .before .before .before .before .before .begins3 .ensures,
+      c .before .before .before .before .before .before .before .if4 .left,
+      ← c .before .before .before .before .before .begins4 .ensures,
+      c .before .before .before .before .if5 .left,
+      ← c .before .before .begins5 .ensures,
+      c .before .if6 .left,
+      ne-eqb _ _ (c .if7 .taken),
+    )
+
+slice-aggregate-begins-6 : tie.Need-slice-aggregate-begins-6
+slice-aggregate-begins-6 c = search needs
+
+begins-requires-6 : tie.Need-begins-requires-6
+begins-requires-6 c κs = search needs
+
+returns-8 : tie.Need-returns-8
+unfolding plainOf
+returns-8 c =
+    rw (
+      ne-eqb _ _ (c .before .before .before .before .before .before .before .before .before .before .before .before .before .before .before .before .before .before .before .if1 .left),
+      ← c .before .before .before .before .before .before .before .before .before .before .before .before .before .before .before .before .before .begins .ensures,
+      c .before .before .before .before .before .before .before .before .before .before .before .before .before .before .before .before .if2 .left,
+      ← c .before .before .before .before .before .before .before .before .before .before .before .before .before .before .begins2 .ensures,
+      c .before .before .before .before .before .before .before .before .before .before .before .before .before .if3 .left,
+      ← c .before .before .before .before .before .before .before .before .before .before .before .begins3 .ensures,
+      c .before .before .before .before .before .before .before .before .before .before .if4 .left,
+      ← c .before .before .before .before .before .before .before .before .begins4 .ensures,
+      c .before .before .before .before .before .before .before .if5 .left,
+      ← c .before .before .before .before .before .begins5 .ensures,
+      c .before .before .before .before .if6 .left,
+      eq-eqb _ _ (c .before .before .before .if7 .left),
+      ← c .before .begins6 .ensures,
+      c .if8 .taken,
+    )
+
+returns-9 : tie.Need-returns-9
+unfolding plainOf
+returns-9 c =
+    rw (
+      ne-eqb _ _ (c .before .before .before .before .before .before .before .before .before .before .before .before .before .before .before .before .before .before .before .if1 .left),
+      ← c .before .before .before .before .before .before .before .before .before .before .before .before .before .before .before .before .before .begins .ensures,
+      c .before .before .before .before .before .before .before .before .before .before .before .before .before .before .before .before .if2 .left,
+      ← c .before .before .before .before .before .before .before .before .before .before .before .before .before .before .begins2 .ensures,
+      c .before .before .before .before .before .before .before .before .before .before .before .before .before .if3 .left,
+      ← c .before .before .before .before .before .before .before .before .before .before .before .begins3 .ensures,
+      c .before .before .before .before .before .before .before .before .before .before .if4 .left,
+      ← c .before .before .before .before .before .before .before .before .begins4 .ensures,
+      c .before .before .before .before .before .before .before .if5 .left,
+      ← c .before .before .before .before .before .begins5 .ensures,
+      c .before .before .before .before .if6 .left,
+      eq-eqb _ _ (c .before .before .before .if7 .left),
+      ← c .before .begins6 .ensures,
+      c .if8 .left,
+    )
+
+pub plain-spec : {M : Type 1} → statement M
+plain-spec =
+    tie.close
+    (tie.spec
+    returns
+    slice-aggregate-begins
+    begins-requires
+    returns-2
+    slice-aggregate-begins-2
+    begins-requires-2
+    sub-ticks
+    part-ticks-start
+    part-ticks-end
+    ticks-requires
+    returns-3
+    slice-aggregate-begins-3
+    begins-requires-3
+    sub-frame
+    part-frame-start
+    part-frame-end
+    frame-requires
+    returns-4
+    slice-aggregate-begins-4
+    begins-requires-4
+    sub-frame-2
+    part-frame-start-2
+    part-frame-end-2
+    frame-requires-2
+    returns-5
+    slice-aggregate-begins-5
+    begins-requires-5
+    sub-room
+    part-room-start
+    part-room-end
+    room-requires
+    returns-6
+    returns-7
+    slice-aggregate-begins-6
+    begins-requires-6
+    returns-8
+    returns-9)

@@ -1,0 +1,59 @@
+-- The numbers of a script: decimal digits, and pairs of hexadecimal ones. A byte is its number in ASCII.
+-- Assumes nothing: these are definitions.
+use Prim.Native.Nat.{ℕ, _+_, _-_, _*_, _/_, _%_}
+use mathlib.Core.Bool.{Bool, true, false, cond, _&&_}
+use mathlib.Core.List.{List, [], _∷_}
+use lib.Dec.{leb, ltb, eqb}
+use lib.ListN.{length}
+use Rattle.places.specs.Bytes.{wordAt}
+use Rattle.script.specs.declared.Hex.{Hex}
+use Rattle.script.specs.declared.Hex.the-variants as hex
+use Rattle.script.specs.declared.decimal.Number.{Number}
+use Rattle.script.specs.declared.decimal.Number.the-variants as number
+
+abbrev pub within : ℕ → ℕ → ℕ → Bool
+within from to b = leb from b && leb b to
+
+-- only 0 to 9
+unfoldable pub allDecimal : List ℕ → Bool
+allDecimal [] = true
+allDecimal (b ∷ s) = within 48 57 b && allDecimal s
+
+-- the number of which these are the next digits
+unfoldable pub decimalFrom : ℕ → List ℕ → ℕ
+decimalFrom v [] = v
+decimalFrom v (b ∷ s) = decimalFrom (v * 10 + (b - 48)) s
+
+-- digits alone, behind a number, and together at most so much
+unfoldable pub numberFrom : ℕ → ℕ → List ℕ → Number
+numberFrom most v s = cond (allDecimal s && leb (decimalFrom v s) most) (number.Value (decimalFrom v s)) number.Nothing
+
+-- a decimal number: one digit or more, no sign, at most so much
+unfoldable pub numberOf : ℕ → List ℕ → Number
+numberOf most s = cond (eqb (length s) 0) number.Nothing (numberFrom most 0 s)
+
+-- the value of a hexadecimal digit, 0 to 9, A to F or a to f; 16 for any other byte
+unfoldable pub digitOf : ℕ → ℕ
+digitOf b = cond (within 48 57 b) (b - 48) (cond (within 65 70 b) (b - 55) (cond (within 97 102 b) (b - 87) 16))
+
+unfoldable pub allHex : List ℕ → Bool
+allHex [] = true
+allHex (b ∷ s) = ltb (digitOf b) 16 && allHex s
+
+-- the bytes of pairs of digits
+unfoldable pub pairsOf : List ℕ → List ℕ
+pairsOf [] = []
+pairsOf (a ∷ []) = []
+pairsOf (a ∷ b ∷ s) = (digitOf a * 16 + digitOf b) ∷ pairsOf s
+
+-- pairs of digits, not more than n of them
+unfoldable pub fits : ℕ → List ℕ → Bool
+fits n s = eqb (length s % 2) 0 && (leb (length s / 2) n && allHex s)
+
+-- their bytes, or none
+unfoldable pub fitting : ℕ → List ℕ → List ℕ
+fitting n s = cond (fits n s) (pairsOf s) []
+
+-- eight digits, as a word of 32 bits
+unfoldable pub wordOf : List ℕ → Hex
+wordOf s = cond (eqb (length s) 8 && fits 4 s) (hex.Word (wordAt (pairsOf s) 0)) hex.Nothing

@@ -1,0 +1,3 @@
+-- What a reader must believe of a script.
+pub mod Digits
+pub mod Lines

@@ -1,0 +1,111 @@
+-- The lines of a script. A line is a word and its fields, separated by one space each:
+--     tick N              N ticks, 1 to 4,294,967,295
+--     thermostat L W      the frame W, eight hexadecimal digits, from the thermostat of line L
+--     boiler L W          the same from the boiler; L is 0 to 255, so that lines that aren't there can be tried
+--     modbus BYTES        a message, a pair of hexadecimal digits for each byte; `modbus` alone is a message of none
+--     room N              from now on a room of N bytes is lent for replies, 0 to 300
+-- An empty line and one that begins with `#` are skipped. Any other line is wrong.
+-- Assumes nothing: these are definitions.
+use Prim.Native.Nat.{ℕ, suc, _+_, _/_}
+use mathlib.Core.Bool.{Bool, true, false, cond, _&&_}
+use mathlib.Core.List.{List, [], _∷_, _++_}
+use lib.Dec.{ltb, eqb}
+use lib.ListN.{length, take, drop}
+use Rattle.script.specs.declared.Event.{Event}
+use Rattle.script.specs.declared.Event.the-variants.{Skip, Wrong, Ticks, Thermostat, Boiler, Message, Room}
+use Rattle.script.specs.declared.Hex.{Hex}
+use Rattle.script.specs.declared.Hex.the-variants as hex
+use Rattle.script.specs.declared.decimal.Number.{Number}
+use Rattle.script.specs.declared.decimal.Number.the-variants as number
+use Rattle.script.specs.Digits.{numberOf, wordOf, fits, pairsOf}
+
+-- what a line says, and the bytes of its message
+pub record Read : Type 0 where
+  pub event : Event
+  pub bytes : List ℕ
+
+-- no message, or none that has bytes
+abbrev pub bare : Event → Read
+bare e = record { event = e; bytes = [] }
+
+-- bytes in front of a room; what is behind them stays
+abbrev pub placed : List ℕ → List ℕ → List ℕ
+placed b room = b ++ drop (length b) room
+
+unfoldable pub begins : List ℕ → List ℕ → Bool
+begins [] s = true
+begins (b ∷ w) [] = false
+begins (b ∷ w) (c ∷ s) = eqb c b && begins w s
+
+-- where the first field ends: before a space, or at the end
+unfoldable pub endOf : List ℕ → ℕ
+endOf [] = 0
+endOf (b ∷ s) = cond (eqb b 32) 0 (suc (endOf s))
+
+abbrev pub ticked : Number → Event
+ticked (number.Value n) = cond (eqb n 0) Wrong (Ticks n)
+ticked number.Nothing = Wrong
+
+unfoldable pub ticksOf : List ℕ → Event
+ticksOf s = ticked (numberOf 4294967295 s)
+
+abbrev pub lent : Number → Event
+lent (number.Value n) = Room n
+lent number.Nothing = Wrong
+
+unfoldable pub roomOf : List ℕ → Event
+roomOf s = lent (numberOf 300 s)
+
+-- of the boiler, or of the thermostat
+abbrev pub framed : Number → Hex → Bool → Event
+framed number.Nothing w boiler = Wrong
+framed (number.Value n) hex.Nothing boiler = Wrong
+framed (number.Value n) (hex.Word w) true = Boiler n w
+framed (number.Value n) (hex.Word w) false = Thermostat n w
+
+-- a number up to the first space, and a word behind it
+unfoldable pub frameOf : Bool → List ℕ → Event
+frameOf boiler s = framed (numberOf 255 (take (endOf s) s)) (wordOf (drop (endOf s + 1) s)) boiler
+
+-- one byte or more, as many as a room of n bytes holds
+unfoldable pub messageOf : ℕ → List ℕ → Read
+messageOf n s = cond (ltb 0 (length s) && fits n s) (record { event = Message (length s / 2); bytes = pairsOf s }) (bare Wrong)
+
+-- `#`
+abbrev pub note : List ℕ
+note = 35 ∷ []
+
+-- `tick `
+abbrev pub tick : List ℕ
+tick = 116 ∷ 105 ∷ 99 ∷ 107 ∷ 32 ∷ []
+
+-- `thermostat `
+abbrev pub thermostat : List ℕ
+thermostat = 116 ∷ 104 ∷ 101 ∷ 114 ∷ 109 ∷ 111 ∷ 115 ∷ 116 ∷ 97 ∷ 116 ∷ 32 ∷ []
+
+-- `boiler `
+abbrev pub boiler : List ℕ
+boiler = 98 ∷ 111 ∷ 105 ∷ 108 ∷ 101 ∷ 114 ∷ 32 ∷ []
+
+-- `room `
+abbrev pub room : List ℕ
+room = 114 ∷ 111 ∷ 111 ∷ 109 ∷ 32 ∷ []
+
+-- `modbus`
+abbrev pub modbus : List ℕ
+modbus = 109 ∷ 111 ∷ 100 ∷ 98 ∷ 117 ∷ 115 ∷ []
+
+-- a line that has no bytes of a message, its end left out
+unfoldable pub plainOf : List ℕ → Event
+plainOf s =
+    cond (eqb (length s) 0) Skip
+    (cond (begins note s) Skip
+    (cond (begins tick s) (ticksOf (drop 5 s))
+    (cond (begins thermostat s) (frameOf false (drop 11 s))
+    (cond (begins boiler s) (frameOf true (drop 7 s))
+    (cond (begins room s) (roomOf (drop 5 s))
+    (cond (eqb (length s) 6 && begins modbus s) (Message 0) Wrong))))))
+
+-- a whole line; there is room for n bytes of a message
+unfoldable pub readOf : ℕ → List ℕ → Read
+readOf n s = cond (begins (modbus ++ (32 ∷ [])) s) (messageOf n (drop 7 s)) (bare (plainOf s))

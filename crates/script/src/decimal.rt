@@ -1,0 +1,35 @@
+// A field of decimal digits, read into a number.
+ghost use mathlib.Core.Path.{_≡_};
+ghost use Rattle.script.specs.Digits.{numberOf};
+
+pub(crate) enum Number {
+    Value(u32),
+    Nothing,
+}
+
+// One digit or more, and at most `most`.
+pub(crate) fn number_of(s: &[u8], most: u32) -> Number
+    ensures { λ r. ⌜ r ≡ numberOf most (now (s .entry)) ⌝ }
+{
+    if s.len() == 0 {
+        return Number::Nothing;
+    }
+    let limit = most as u64;
+    let mut value: u64 = 0;
+    let mut i = 0;
+    while i < s.len() {
+        let byte = s[i];
+        if byte < b'0' {
+            return Number::Nothing;
+        }
+        if b'9' < byte {
+            return Number::Nothing;
+        }
+        value = value * 10 + (byte - b'0') as u64;
+        if limit < value {
+            return Number::Nothing;
+        }
+        i += 1;
+    }
+    Number::Value(value as u32)
+}

@@ -1,0 +1,181 @@
+// A line of a script, read into an event. The bytes of a message go into a room that the caller lends.
+mod decimal;
+mod pairs;
+
+use decimal::Number;
+use decimal::number_of;
+use pairs::pairs;
+use places::word_at;
+ghost use mathlib.Core.Path.{_≡_};
+ghost use Prim.Native.Nat.{_≤_};
+ghost use lib.ListN.{length};
+ghost use Rattle.script.specs.Digits.{wordOf};
+ghost use Rattle.script.specs.Lines.{
+  begins as beginsOf,
+  endOf,
+  ticksOf,
+  roomOf,
+  frameOf,
+  placed,
+  messageOf,
+  plainOf,
+  readOf,
+};
+
+// What a line of the script says. The bytes of a message stand in the room that was lent for them.
+pub enum Event {
+    Skip,
+    Wrong,
+    Ticks(u32),
+    Thermostat(u8, u32),
+    Boiler(u8, u32),
+    Message(usize),
+    Room(usize),
+}
+
+// A word of eight hexadecimal digits.
+enum Hex {
+    Word(u32),
+    Nothing,
+}
+
+// Whether the line begins with these bytes.
+fn begins(line: &[u8], with: &[u8]) -> bool
+    ensures { λ r. ⌜ r ≡ beginsOf (now (with .entry)) (now (line .entry)) ⌝ }
+{
+    if line.len() < with.len() {
+        return false;
+    }
+    let mut i = 0;
+    while i < with.len() {
+        if line[i] != with[i] {
+            return false;
+        }
+        i += 1;
+    }
+    true
+}
+
+// The end of the first field: the place of the first space, or the end of all.
+fn field_end(s: &[u8]) -> usize
+    ensures { λ r. ⌜ (r ≡ endOf (now (s .entry))) × (r ≤ length (now (s .entry))) ⌝ }
+{
+    let mut at = 0;
+    while at < s.len() {
+        if s[at] == b' ' {
+            return at;
+        }
+        at += 1;
+    }
+    at
+}
+
+fn word(s: &[u8]) -> Hex
+    ensures { λ r. ⌜ r ≡ wordOf (now (s .entry)) ⌝ }
+{
+    if s.len() != 8 {
+        return Hex::Nothing;
+    }
+    let mut bytes = [0u8; 4];
+    if !pairs(s, &mut bytes) {
+        return Hex::Nothing;
+    }
+    Hex::Word(word_at(&bytes, 0))
+}
+
+fn ticks(s: &[u8]) -> Event
+    ensures { λ r. ⌜ r ≡ ticksOf (now (s .entry)) ⌝ }
+{
+    let Number::Value(n) = number_of(s, 4294967295) else {
+        return Event::Wrong;
+    };
+    if n == 0 {
+        return Event::Wrong;
+    }
+    Event::Ticks(n)
+}
+
+fn room(s: &[u8]) -> Event
+    ensures { λ r. ⌜ r ≡ roomOf (now (s .entry)) ⌝ }
+{
+    let Number::Value(n) = number_of(s, 300) else {
+        return Event::Wrong;
+    };
+    Event::Room(n as usize)
+}
+
+// A line's number and a word: of the boiler, or of the thermostat.
+fn frame(s: &[u8], boiler: bool) -> Event
+    ensures { λ r. ⌜ r ≡ frameOf boiler (now (s .entry)) ⌝ }
+{
+    let end = field_end(s);
+    let Number::Value(n) = number_of(&s[..end], 255) else {
+        return Event::Wrong;
+    };
+    if s.len() <= end {
+        return Event::Wrong;
+    }
+    let Hex::Word(w) = word(&s[end + 1..]) else {
+        return Event::Wrong;
+    };
+    if boiler {
+        return Event::Boiler(n as u8, w);
+    }
+    Event::Thermostat(n as u8, w)
+}
+
+// The bytes of a message: a pair of digits or more.
+fn message(s: &[u8], bytes: &mut [u8]) -> Event
+    ensures { λ r. ⌜ (r ≡ messageOf (length (now (bytes .entry))) (now (s .entry)) .event)
+        × (now (bytes .exit) ≡ placed (messageOf (length (now (bytes .entry))) (now (s .entry)) .bytes) (now (bytes .entry))) ⌝ }
+{
+    if s.len() == 0 {
+        return Event::Wrong;
+    }
+    if !pairs(s, bytes) {
+        return Event::Wrong;
+    }
+    Event::Message(s.len() / 2)
+}
+
+// A line that lends no bytes to a message.
+fn plain(line: &[u8]) -> Event
+    ensures { λ r. ⌜ r ≡ plainOf (now (line .entry)) ⌝ }
+{
+    if line.len() == 0 {
+        return Event::Skip;
+    }
+    if begins(line, b"#") {
+        return Event::Skip;
+    }
+    if begins(line, b"tick ") {
+        return ticks(&line[5..]);
+    }
+    if begins(line, b"thermostat ") {
+        return frame(&line[11..], false);
+    }
+    if begins(line, b"boiler ") {
+        return frame(&line[7..], true);
+    }
+    if begins(line, b"room ") {
+        return room(&line[5..]);
+    }
+    if line.len() != 6 {
+        return Event::Wrong;
+    }
+    if begins(line, b"modbus") {
+        return Event::Message(0);
+    }
+    Event::Wrong
+}
+
+// A whole line, its end left out.
+pub fn event_of(line: &[u8], bytes: &mut [u8]) -> Event
+    ensures { λ r. ⌜ (r ≡ readOf (length (now (bytes .entry))) (now (line .entry)) .event)
+        × (now (bytes .exit) ≡ placed (readOf (length (now (bytes .entry))) (now (line .entry)) .bytes) (now (bytes .entry))) ⌝ }
+{
+    if begins(line, b"modbus ") {
+        return message(&line[7..], bytes);
+    }
+    plain(line)
+}
