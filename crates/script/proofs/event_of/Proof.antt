@@ -44,7 +44,8 @@ returns c =
     let s = now (a .line) in
     let m = c .before .before .message in
     let e : readOf (length (now (a .bytes))) s ≡ messageOf (length (now (a .bytes))) (take (length s - 7) (drop 7 s)) =
-    with-bytes (length (now (a .bytes))) s (sym (c .before .before .before .before .before .before .begins .ensures) ∙ c .before .before .before .before .before .if1 .taken)
+    with-bytes (length (now (a .bytes))) s
+    (sym (c .before .before .before .before .before .before .begins .ensures) ∙ c .before .before .before .before .before .if1 .taken)
     ∙ ap (messageOf (length (now (a .bytes)))) (sym (part 7 s)) in
     (rw e (m .ensures .0), rw e (m .ensures .1))
 

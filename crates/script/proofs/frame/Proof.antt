@@ -36,9 +36,15 @@ returns c = rw (← c .before .before .before .before .field-end .ensures .0, �
 returns-2 : tie.Need-returns-2
 unfolding frameOf wordOf
 returns-2 c =
-    let s = c .before .before .before .before .before .before .before .before .args .s .now in
-    let end = c .before .before .before .before .before .before .field-end .result in
-    rw (← c .before .before .before .before .before .before .field-end .ensures .0, ← c .before .before .before .before .number-of .ensures, c .before .before .n .given .1, drop-of-length-le s {i = end + 1} (omega arith))
+    let d = c .before .before .before .before .before .before in
+    let s = d .before .before .args .s .now in
+    let end = d .field-end .result in
+    rw (
+      ← d .field-end .ensures .0,
+      ← c .before .before .before .before .number-of .ensures,
+      c .before .before .n .given .1,
+      drop-of-length-le s {i = end + 1} (omega arith),
+    )
 
 add-word : tie.Need-add-word
 add-word c = search needs
@@ -64,35 +70,64 @@ enum-told-2 c = search needs
 returns-3 : tie.Need-returns-3
 unfolding frameOf
 returns-3 c =
-    let end = c .before .before .before .before .before .before .before .before .before .before .field-end .result in
-    let behind = c .before .before .word .ensures ∙ ap wordOf (part (end + 1) (c .before .before .before .before .before .before .before .before .before .before .before .before .args .s .now)) in
-    rw (← c .before .before .before .before .before .before .before .before .before .before .field-end .ensures .0, ← c .before .before .before .before .before .before .before .before .number-of .ensures, c .before .before .before .before .before .before .n .given .1, ← behind, c .enum-told2 .given .1)
+    let d = c .before .before .before .before .before .before in
+    let end = d .before .before .before .before .field-end .result in
+    let behind = c .before .before .word .ensures ∙ ap wordOf (part (end + 1) (d .before .before .before .before .before .before .args .s .now)) in
+    rw (
+      ← d .before .before .before .before .field-end .ensures .0,
+      ← d .before .before .number-of .ensures,
+      d .n .given .1,
+      ← behind,
+      c .enum-told2 .given .1,
+    )
 
 cast-t16 : tie.Need-cast-t16
 cast-t16 c =
-    let s = c .before .before .before .before .before .before .before .before .before .before .before .before .before .before .args .s .now in
-    let few = at-most 255 (take (c .before .before .before .before .before .before .before .before .before .before .before .before .field-end .result) s) _ (sym (c .before .before .before .before .before .before .before .before .before .before .number-of .ensures) ∙ c .before .before .before .before .before .before .before .before .n .given .1) in
+    let d = c .before .before .before .before .before .before in
+    let e = d .before .before .before .before .before .before in
+    let s = e .before .before .args .s .now in
+    let few = at-most 255 (take (e .field-end .result) s) _ (sym (d .before .before .before .before .number-of .ensures) ∙ d .before .before .n .given .1) in
     omega arith
 
 returns-4 : tie.Need-returns-4
 unfolding frameOf
 returns-4 c =
-    let end = c .before .before .before .before .before .before .before .before .before .before .before .before .field-end .result in
-    let behind = c .before .before .before .before .word .ensures ∙ ap wordOf (part (end + 1) (c .before .before .before .before .before .before .before .before .before .before .before .before .before .before .args .s .now)) in
-    rw (← c .before .before .before .before .before .before .before .before .before .before .before .before .field-end .ensures .0, ← c .before .before .before .before .before .before .before .before .before .before .number-of .ensures, c .before .before .before .before .before .before .before .before .n .given .1, ← behind, c .before .before .w .given .1, c .if2 .taken)
+    let d = c .before .before .before .before .before .before in
+    let e = d .before .before .before .before .before .before in
+    let end = e .field-end .result in
+    let behind = c .before .before .before .before .word .ensures ∙ ap wordOf (part (end + 1) (e .before .before .args .s .now)) in
+    rw (
+      ← e .field-end .ensures .0,
+      ← d .before .before .before .before .number-of .ensures,
+      d .before .before .n .given .1,
+      ← behind,
+      c .before .before .w .given .1,
+      c .if2 .taken,
+    )
 
 cast-t17 : tie.Need-cast-t17
 cast-t17 c =
-    let s = c .before .before .before .before .before .before .before .before .before .before .before .before .before .before .args .s .now in
-    let few = at-most 255 (take (c .before .before .before .before .before .before .before .before .before .before .before .before .field-end .result) s) _ (sym (c .before .before .before .before .before .before .before .before .before .before .number-of .ensures) ∙ c .before .before .before .before .before .before .before .before .n .given .1) in
+    let d = c .before .before .before .before .before .before in
+    let e = d .before .before .before .before .before .before in
+    let s = e .before .before .args .s .now in
+    let few = at-most 255 (take (e .field-end .result) s) _ (sym (d .before .before .before .before .number-of .ensures) ∙ d .before .before .n .given .1) in
     omega arith
 
 returns-5 : tie.Need-returns-5
 unfolding frameOf
 returns-5 c =
-    let end = c .before .before .before .before .before .before .before .before .before .before .before .before .field-end .result in
-    let behind = c .before .before .before .before .word .ensures ∙ ap wordOf (part (end + 1) (c .before .before .before .before .before .before .before .before .before .before .before .before .before .before .args .s .now)) in
-    rw (← c .before .before .before .before .before .before .before .before .before .before .before .before .field-end .ensures .0, ← c .before .before .before .before .before .before .before .before .before .before .number-of .ensures, c .before .before .before .before .before .before .before .before .n .given .1, ← behind, c .before .before .w .given .1, c .if2 .left)
+    let d = c .before .before .before .before .before .before in
+    let e = d .before .before .before .before .before .before in
+    let end = e .field-end .result in
+    let behind = c .before .before .before .before .word .ensures ∙ ap wordOf (part (end + 1) (e .before .before .args .s .now)) in
+    rw (
+      ← e .field-end .ensures .0,
+      ← d .before .before .before .before .number-of .ensures,
+      d .before .before .n .given .1,
+      ← behind,
+      c .before .before .w .given .1,
+      c .if2 .left,
+    )
 
 pub frame-spec : {M : Type 1} → statement M
 frame-spec =

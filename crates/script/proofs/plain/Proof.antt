@@ -37,12 +37,14 @@ begins-requires-2 c κs = search needs
 
 sub-ticks : tie.Need-sub-ticks
 sub-ticks c =
-    let h = long tick (c .before .before .before .before .before .before .before .before .args .line .now) (sym (c .before .begins2 .ensures) ∙ c .if3 .taken) in
+    let d = c .before .before .before .before .before .before .before .before in
+    let h = long tick (d .args .line .now) (sym (c .before .begins2 .ensures) ∙ c .if3 .taken) in
     omega arith
 
 part-ticks-start : tie.Need-part-ticks-start
 part-ticks-start c =
-    let h = long tick (c .before .before .before .before .before .before .before .before .args .line .now) (sym (c .before .begins2 .ensures) ∙ c .if3 .taken) in
+    let d = c .before .before .before .before .before .before .before .before in
+    let h = long tick (d .args .line .now) (sym (c .before .begins2 .ensures) ∙ c .if3 .taken) in
     omega arith
 
 part-ticks-end : tie.Need-part-ticks-end
@@ -70,12 +72,14 @@ begins-requires-3 c κs = search needs
 
 sub-frame : tie.Need-sub-frame
 sub-frame c =
-    let h = long thermostat (c .before .before .before .before .before .before .before .before .before .before .before .args .line .now) (sym (c .before .begins3 .ensures) ∙ c .if4 .taken) in
+    let d = c .before .before .before .before .before .before .before .before in
+    let h = long thermostat (d .before .before .before .args .line .now) (sym (c .before .begins3 .ensures) ∙ c .if4 .taken) in
     omega arith
 
 part-frame-start : tie.Need-part-frame-start
 part-frame-start c =
-    let h = long thermostat (c .before .before .before .before .before .before .before .before .before .before .before .args .line .now) (sym (c .before .begins3 .ensures) ∙ c .if4 .taken) in
+    let d = c .before .before .before .before .before .before .before .before in
+    let h = long thermostat (d .before .before .before .args .line .now) (sym (c .before .begins3 .ensures) ∙ c .if4 .taken) in
     omega arith
 
 part-frame-end : tie.Need-part-frame-end
@@ -87,15 +91,16 @@ frame-requires c κs = search needs
 returns-4 : tie.Need-returns-4
 unfolding plainOf
 returns-4 c =
+    let d = c .before .before .before .before .before .before .before .before in
     rw (
-      ne-eqb _ _ (c .before .before .before .before .before .before .before .before .before .before .before .if1 .left),
-      ← c .before .before .before .before .before .before .before .before .before .begins .ensures,
-      c .before .before .before .before .before .before .before .before .if2 .left,
+      ne-eqb _ _ (d .before .before .before .if1 .left),
+      ← d .before .begins .ensures,
+      d .if2 .left,
       ← c .before .before .before .before .before .before .begins2 .ensures,
       c .before .before .before .before .before .if3 .left,
       ← c .before .before .before .begins3 .ensures,
       c .before .before .if4 .taken,
-    ) (c .frame .ensures ∙ ap (frameOf false) (part 11 (c .before .before .before .before .before .before .before .before .before .before .before .before .before .args .line .now)))
+    ) (c .frame .ensures ∙ ap (frameOf false) (part 11 (d .before .before .before .before .before .args .line .now)))
 
 slice-aggregate-begins-4 : tie.Need-slice-aggregate-begins-4
 slice-aggregate-begins-4 c = search needs
@@ -105,12 +110,14 @@ begins-requires-4 c κs = search needs
 
 sub-frame-2 : tie.Need-sub-frame-2
 sub-frame-2 c =
-    let h = long boiler (c .before .before .before .before .before .before .before .before .before .before .before .before .before .before .args .line .now) (sym (c .before .begins4 .ensures) ∙ c .if5 .taken) in
+    let d = c .before .before .before .before .before .before .before .before in
+    let h = long boiler (d .before .before .before .before .before .before .args .line .now) (sym (c .before .begins4 .ensures) ∙ c .if5 .taken) in
     omega arith
 
 part-frame-start-2 : tie.Need-part-frame-start-2
 part-frame-start-2 c =
-    let h = long boiler (c .before .before .before .before .before .before .before .before .before .before .before .before .before .before .args .line .now) (sym (c .before .begins4 .ensures) ∙ c .if5 .taken) in
+    let d = c .before .before .before .before .before .before .before .before in
+    let h = long boiler (d .before .before .before .before .before .before .args .line .now) (sym (c .before .begins4 .ensures) ∙ c .if5 .taken) in
     omega arith
 
 part-frame-end-2 : tie.Need-part-frame-end-2
@@ -122,17 +129,18 @@ frame-requires-2 c κs = search needs
 returns-5 : tie.Need-returns-5
 unfolding plainOf
 returns-5 c =
+    let d = c .before .before .before .before .before .before .before .before in
     rw (
-      ne-eqb _ _ (c .before .before .before .before .before .before .before .before .before .before .before .before .before .before .if1 .left),
-      ← c .before .before .before .before .before .before .before .before .before .before .before .before .begins .ensures,
-      c .before .before .before .before .before .before .before .before .before .before .before .if2 .left,
-      ← c .before .before .before .before .before .before .before .before .before .begins2 .ensures,
-      c .before .before .before .before .before .before .before .before .if3 .left,
+      ne-eqb _ _ (d .before .before .before .before .before .before .if1 .left),
+      ← d .before .before .before .before .begins .ensures,
+      d .before .before .before .if2 .left,
+      ← d .before .begins2 .ensures,
+      d .if3 .left,
       ← c .before .before .before .before .before .before .begins3 .ensures,
       c .before .before .before .before .before .if4 .left,
       ← c .before .before .before .begins4 .ensures,
       c .before .before .if5 .taken,
-    ) (c .frame2 .ensures ∙ ap (frameOf true) (part 7 (c .before .before .before .before .before .before .before .before .before .before .before .before .before .before .before .before .args .line .now)))
+    ) (c .frame2 .ensures ∙ ap (frameOf true) (part 7 (d .before .before .before .before .before .before .before .before .args .line .now)))
 
 slice-aggregate-begins-5 : tie.Need-slice-aggregate-begins-5
 slice-aggregate-begins-5 c = search needs
@@ -142,12 +150,16 @@ begins-requires-5 c κs = search needs
 
 sub-room : tie.Need-sub-room
 sub-room c =
-    let h = long room (c .before .before .before .before .before .before .before .before .before .before .before .before .before .before .before .before .before .args .line .now) (sym (c .before .begins5 .ensures) ∙ c .if6 .taken) in
+    let d = c .before .before .before .before .before .before .before .before in
+    let line = d .before .before .before .before .before .before .before .before .before .args .line .now in
+    let h = long room line (sym (c .before .begins5 .ensures) ∙ c .if6 .taken) in
     omega arith
 
 part-room-start : tie.Need-part-room-start
 part-room-start c =
-    let h = long room (c .before .before .before .before .before .before .before .before .before .before .before .before .before .before .before .before .before .args .line .now) (sym (c .before .begins5 .ensures) ∙ c .if6 .taken) in
+    let d = c .before .before .before .before .before .before .before .before in
+    let line = d .before .before .before .before .before .before .before .before .before .args .line .now in
+    let h = long room line (sym (c .before .begins5 .ensures) ∙ c .if6 .taken) in
     omega arith
 
 part-room-end : tie.Need-part-room-end
@@ -159,19 +171,20 @@ room-requires c κs = search needs
 returns-6 : tie.Need-returns-6
 unfolding plainOf
 returns-6 c =
+    let d = c .before .before .before .before .before .before .before .before in
     rw (
-      ne-eqb _ _ (c .before .before .before .before .before .before .before .before .before .before .before .before .before .before .before .before .before .if1 .left),
-      ← c .before .before .before .before .before .before .before .before .before .before .before .before .before .before .before .begins .ensures,
-      c .before .before .before .before .before .before .before .before .before .before .before .before .before .before .if2 .left,
-      ← c .before .before .before .before .before .before .before .before .before .before .before .before .begins2 .ensures,
-      c .before .before .before .before .before .before .before .before .before .before .before .if3 .left,
-      ← c .before .before .before .before .before .before .before .before .before .begins3 .ensures,
-      c .before .before .before .before .before .before .before .before .if4 .left,
+      ne-eqb _ _ (d .before .before .before .before .before .before .before .before .before .if1 .left),
+      ← d .before .before .before .before .before .before .before .begins .ensures,
+      d .before .before .before .before .before .before .if2 .left,
+      ← d .before .before .before .before .begins2 .ensures,
+      d .before .before .before .if3 .left,
+      ← d .before .begins3 .ensures,
+      d .if4 .left,
       ← c .before .before .before .before .before .before .begins4 .ensures,
       c .before .before .before .before .before .if5 .left,
       ← c .before .before .before .begins5 .ensures,
       c .before .before .if6 .taken,
-    ) (c .room .ensures ∙ ap roomOf (part 5 (c .before .before .before .before .before .before .before .before .before .before .before .before .before .before .before .before .before .before .before .args .line .now)))
+    ) (c .room .ensures ∙ ap roomOf (part 5 (d .before .before .before .before .before .before .before .before .before .before .before .args .line .now)))
 
 returns-7 : tie.Need-returns-7
 unfolding plainOf
@@ -200,15 +213,16 @@ begins-requires-6 c κs = search needs
 returns-8 : tie.Need-returns-8
 unfolding plainOf
 returns-8 c =
+    let d = c .before .before .before .before .before .before .before .before in
     rw (
-      ne-eqb _ _ (c .before .before .before .before .before .before .before .before .before .before .before .before .before .before .before .before .before .before .before .if1 .left),
-      ← c .before .before .before .before .before .before .before .before .before .before .before .before .before .before .before .before .before .begins .ensures,
-      c .before .before .before .before .before .before .before .before .before .before .before .before .before .before .before .before .if2 .left,
-      ← c .before .before .before .before .before .before .before .before .before .before .before .before .before .before .begins2 .ensures,
-      c .before .before .before .before .before .before .before .before .before .before .before .before .before .if3 .left,
-      ← c .before .before .before .before .before .before .before .before .before .before .before .begins3 .ensures,
-      c .before .before .before .before .before .before .before .before .before .before .if4 .left,
-      ← c .before .before .before .before .before .before .before .before .begins4 .ensures,
+      ne-eqb _ _ (d .before .before .before .before .before .before .before .before .before .before .before .if1 .left),
+      ← d .before .before .before .before .before .before .before .before .before .begins .ensures,
+      d .before .before .before .before .before .before .before .before .if2 .left,
+      ← d .before .before .before .before .before .before .begins2 .ensures,
+      d .before .before .before .before .before .if3 .left,
+      ← d .before .before .before .begins3 .ensures,
+      d .before .before .if4 .left,
+      ← d .begins4 .ensures,
       c .before .before .before .before .before .before .before .if5 .left,
       ← c .before .before .before .before .before .begins5 .ensures,
       c .before .before .before .before .if6 .left,
@@ -220,15 +234,16 @@ returns-8 c =
 returns-9 : tie.Need-returns-9
 unfolding plainOf
 returns-9 c =
+    let d = c .before .before .before .before .before .before .before .before in
     rw (
-      ne-eqb _ _ (c .before .before .before .before .before .before .before .before .before .before .before .before .before .before .before .before .before .before .before .if1 .left),
-      ← c .before .before .before .before .before .before .before .before .before .before .before .before .before .before .before .before .before .begins .ensures,
-      c .before .before .before .before .before .before .before .before .before .before .before .before .before .before .before .before .if2 .left,
-      ← c .before .before .before .before .before .before .before .before .before .before .before .before .before .before .begins2 .ensures,
-      c .before .before .before .before .before .before .before .before .before .before .before .before .before .if3 .left,
-      ← c .before .before .before .before .before .before .before .before .before .before .before .begins3 .ensures,
-      c .before .before .before .before .before .before .before .before .before .before .if4 .left,
-      ← c .before .before .before .before .before .before .before .before .begins4 .ensures,
+      ne-eqb _ _ (d .before .before .before .before .before .before .before .before .before .before .before .if1 .left),
+      ← d .before .before .before .before .before .before .before .before .before .begins .ensures,
+      d .before .before .before .before .before .before .before .before .if2 .left,
+      ← d .before .before .before .before .before .before .begins2 .ensures,
+      d .before .before .before .before .before .if3 .left,
+      ← d .before .before .before .begins3 .ensures,
+      d .before .before .if4 .left,
+      ← d .begins4 .ensures,
       c .before .before .before .before .before .before .before .if5 .left,
       ← c .before .before .before .before .before .begins5 .ensures,
       c .before .before .before .before .if6 .left,

@@ -20,7 +20,13 @@ push-requires-2 c κs = search needs
 
 returns : tie.Need-returns
 unfolding framed
-returns c = rw (puts-field, puts-last, ← c .before .before .before .on-line .ensures, ← c .before .before .push .ensures, ← c .before .hex .ensures) (c .push2 .ensures)
+returns c = rw (
+  puts-field,
+  puts-last,
+  ← c .before .before .before .on-line .ensures,
+  ← c .before .before .push .ensures,
+  ← c .before .hex .ensures,
+) (c .push2 .ensures)
 
 pub framed-spec : {M : Type 1} → statement M
 framed-spec =

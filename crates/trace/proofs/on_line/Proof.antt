@@ -20,7 +20,13 @@ decimal-requires-2 c κs = search needs
 
 returns : tie.Need-returns
 unfolding onLine
-returns c = rw (puts-append, puts-append, ← c .before .before .before .empty .ensures, ← c .before .before .decimal .ensures, ← c .before .put .ensures) (c .decimal2 .ensures)
+returns c = rw (
+  puts-append,
+  puts-append,
+  ← c .before .before .before .empty .ensures,
+  ← c .before .before .decimal .ensures,
+  ← c .before .put .ensures,
+) (c .decimal2 .ensures)
 
 pub on-line-spec : {M : Type 1} → statement M
 on-line-spec =
