@@ -1,5 +1,4 @@
-//! The programs both sides have, by name. What 01 doesn't say of them is quoted from the description
-//! that both were written from.
+//! The programs both sides have, by name. What 01 doesn't say of them stands in the comments of each.
 
 mod command;
 mod decode;
