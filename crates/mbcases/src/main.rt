@@ -70,7 +70,7 @@ fn order(o: Order) {
     say(b"order ");
     io::print_decimal(STDOUT_FILENO, o.line as u64);
     let q = o.question;
-    word(requests::question_word(q));
+    word(questions::word_of(q));
     let t = q.t;
     match t {
         QuestionType::ReadData => outcome(o, 4),

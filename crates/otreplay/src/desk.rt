@@ -80,7 +80,8 @@ fn at_rest(d: Desk) -> bool {
     if d.lent < Gateway::ROOM {
         return false;
     }
-    d.gateway.idle()
+    let lines = d.gateway.lines;
+    rests::all_idle(lines)
 }
 
 // So many ticks that change nothing but the time.

@@ -1,12 +1,12 @@
--- `requests::question_word` meets its contract: the three types are built, none is refused.
+-- `questions::word_of` meets its contract: the three types are built, none is refused.
 -- Assumes nothing.
 use mathlib.Core.Path.{sym, ap, _∙_}
 use Prim.Native.Nat.{ℕ}
 use borrow.Author.Needs.{needs}
 use Rattle.word.specs.Frame.{builtOf}
 use Rattle.modbus.proofs.Questions.{never-refused}
-use Rattle.requests.proofs.question_word.Statement.{statement}
-use Rattle.requests.proofs.question_word.Tie as tie
+use Rattle.questions.proofs.word_of.Statement.{statement}
+use Rattle.questions.proofs.word_of.Tie as tie
 
 type-number-requires : tie.Need-type-number-requires
 type-number-requires c κs = search needs
@@ -34,7 +34,7 @@ returns-2 c =
     (sym (c .enum-told .given .1) ∙ c .before .before .build .ensures
     ∙ ap (λ (n : ℕ). builtOf n (q .id) (q .value)) (c .before .before .before .type-number .ensures)))
 
-pub question-word-spec : {M : Type 1} → statement M
-question-word-spec =
+pub word-of-spec : {M : Type 1} → statement M
+word-of-spec =
     tie.close
     (tie.spec type-number-requires build-requires enum-known-w enum-told returns returns-2)
