@@ -57,11 +57,14 @@ unfoldable pub roomOf : List ℕ → Event
 roomOf s = lent (numberOf 300 s)
 
 -- of the boiler, or of the thermostat
+abbrev pub from : Bool → ℕ → ℕ → Event
+from true n w = Boiler n w
+from false n w = Thermostat n w
+
 abbrev pub framed : Number → Hex → Bool → Event
 framed number.Nothing w boiler = Wrong
 framed (number.Value n) hex.Nothing boiler = Wrong
-framed (number.Value n) (hex.Word w) true = Boiler n w
-framed (number.Value n) (hex.Word w) false = Thermostat n w
+framed (number.Value n) (hex.Word w) boiler = from boiler n w
 
 -- a number up to the first space, and a word behind it
 unfoldable pub frameOf : Bool → List ℕ → Event
@@ -95,6 +98,10 @@ room = 114 ∷ 111 ∷ 111 ∷ 109 ∷ 32 ∷ []
 abbrev pub modbus : List ℕ
 modbus = 109 ∷ 111 ∷ 100 ∷ 98 ∷ 117 ∷ 115 ∷ []
 
+-- a message of no bytes; any other line is wrong
+unfoldable pub aloneOf : List ℕ → Event
+aloneOf s = cond (eqb (length s) 6 && begins modbus s) (Message 0) Wrong
+
 -- a line that has no bytes of a message, its end left out
 unfoldable pub plainOf : List ℕ → Event
 plainOf s =
@@ -104,7 +111,7 @@ plainOf s =
     (cond (begins thermostat s) (frameOf false (drop 11 s))
     (cond (begins boiler s) (frameOf true (drop 7 s))
     (cond (begins room s) (roomOf (drop 5 s))
-    (cond (eqb (length s) 6 && begins modbus s) (Message 0) Wrong))))))
+    (aloneOf s))))))
 
 -- a whole line; there is room for n bytes of a message
 unfoldable pub readOf : ℕ → List ℕ → Read

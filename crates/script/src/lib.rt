@@ -15,9 +15,11 @@ ghost use Rattle.script.specs.Lines.{
   endOf,
   ticksOf,
   roomOf,
+  from as fromOf,
   frameOf,
   placed,
   messageOf,
+  aloneOf,
   plainOf,
   readOf,
 };
@@ -104,7 +106,18 @@ fn room(s: &[u8]) -> Event
     Event::Room(n as usize)
 }
 
-// A line's number and a word: of the boiler, or of the thermostat.
+// Of the boiler, or of the thermostat.
+fn from(boiler: bool, n: u8, w: u32) -> Event
+    ensures { λ r. ⌜ r ≡ fromOf boiler n w ⌝ }
+{
+    if boiler {
+        Event::Boiler(n, w)
+    } else {
+        Event::Thermostat(n, w)
+    }
+}
+
+// A line's number and a word.
 fn frame(s: &[u8], boiler: bool) -> Event
     ensures { λ r. ⌜ r ≡ frameOf boiler (now (s .entry)) ⌝ }
 {
@@ -118,10 +131,7 @@ fn frame(s: &[u8], boiler: bool) -> Event
     let Hex::Word(w) = word(&s[end + 1..]) else {
         return Event::Wrong;
     };
-    if boiler {
-        return Event::Boiler(n as u8, w);
-    }
-    Event::Thermostat(n as u8, w)
+    from(boiler, n as u8, w)
 }
 
 // The bytes of a message: a pair of digits or more.
@@ -136,6 +146,19 @@ fn message(s: &[u8], bytes: &mut [u8]) -> Event
         return Event::Wrong;
     }
     Event::Message(s.len() / 2)
+}
+
+// A message of no bytes; any other line is wrong.
+fn alone(line: &[u8]) -> Event
+    ensures { λ r. ⌜ r ≡ aloneOf (now (line .entry)) ⌝ }
+{
+    if line.len() != 6 {
+        return Event::Wrong;
+    }
+    if begins(line, b"modbus") {
+        return Event::Message(0);
+    }
+    Event::Wrong
 }
 
 // A line that lends no bytes to a message.
@@ -160,13 +183,7 @@ fn plain(line: &[u8]) -> Event
     if begins(line, b"room ") {
         return room(&line[5..]);
     }
-    if line.len() != 6 {
-        return Event::Wrong;
-    }
-    if begins(line, b"modbus") {
-        return Event::Message(0);
-    }
-    Event::Wrong
+    alone(line)
 }
 
 // A whole line, its end left out.

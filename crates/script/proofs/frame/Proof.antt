@@ -81,13 +81,16 @@ returns-3 c =
       c .enum-told2 .given .1,
     )
 
-cast-t16 : tie.Need-cast-t16
-cast-t16 c =
-    let d = c .before .before .before .before .before .before in
+cast-from : tie.Need-cast-from
+cast-from c =
+    let d = c .before .before .before .before .before in
     let e = d .before .before .before .before .before .before in
     let s = e .before .before .args .s .now in
     let few = at-most 255 (take (e .field-end .result) s) _ (sym (d .before .before .before .before .number-of .ensures) ∙ d .before .before .n .given .1) in
     omega arith
+
+from-requires : tie.Need-from-requires
+from-requires c κs = search needs
 
 returns-4 : tie.Need-returns-4
 unfolding frameOf
@@ -102,32 +105,7 @@ returns-4 c =
       d .before .before .n .given .1,
       ← behind,
       c .before .before .w .given .1,
-      c .if2 .taken,
-    )
-
-cast-t17 : tie.Need-cast-t17
-cast-t17 c =
-    let d = c .before .before .before .before .before .before in
-    let e = d .before .before .before .before .before .before in
-    let s = e .before .before .args .s .now in
-    let few = at-most 255 (take (e .field-end .result) s) _ (sym (d .before .before .before .before .number-of .ensures) ∙ d .before .before .n .given .1) in
-    omega arith
-
-returns-5 : tie.Need-returns-5
-unfolding frameOf
-returns-5 c =
-    let d = c .before .before .before .before .before .before in
-    let e = d .before .before .before .before .before .before in
-    let end = e .field-end .result in
-    let behind = c .before .before .before .before .word .ensures ∙ ap wordOf (part (end + 1) (e .before .before .args .s .now)) in
-    rw (
-      ← e .field-end .ensures .0,
-      ← d .before .before .before .before .number-of .ensures,
-      d .before .before .n .given .1,
-      ← behind,
-      c .before .before .w .given .1,
-      c .if2 .left,
-    )
+    ) (c .from .ensures)
 
 pub frame-spec : {M : Type 1} → statement M
 frame-spec =
@@ -148,7 +126,6 @@ frame-spec =
     enum-known-w
     enum-told-2
     returns-3
-    cast-t16
-    returns-4
-    cast-t17
-    returns-5)
+    cast-from
+    from-requires
+    returns-4)

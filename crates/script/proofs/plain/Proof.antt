@@ -186,6 +186,9 @@ returns-6 c =
       c .before .before .if6 .taken,
     ) (c .room .ensures ∙ ap roomOf (part 5 (d .before .before .before .before .before .before .before .before .before .before .before .args .line .now)))
 
+alone-requires : tie.Need-alone-requires
+alone-requires c κs = search needs
+
 returns-7 : tie.Need-returns-7
 unfolding plainOf
 returns-7 c =
@@ -201,56 +204,7 @@ returns-7 c =
       c .before .before .before .before .if5 .left,
       ← c .before .before .begins5 .ensures,
       c .before .if6 .left,
-      ne-eqb _ _ (c .if7 .taken),
-    )
-
-slice-aggregate-begins-6 : tie.Need-slice-aggregate-begins-6
-slice-aggregate-begins-6 c = search needs
-
-begins-requires-6 : tie.Need-begins-requires-6
-begins-requires-6 c κs = search needs
-
-returns-8 : tie.Need-returns-8
-unfolding plainOf
-returns-8 c =
-    let d = c .before .before .before .before .before .before .before .before in
-    rw (
-      ne-eqb _ _ (d .before .before .before .before .before .before .before .before .before .before .before .if1 .left),
-      ← d .before .before .before .before .before .before .before .before .before .begins .ensures,
-      d .before .before .before .before .before .before .before .before .if2 .left,
-      ← d .before .before .before .before .before .before .begins2 .ensures,
-      d .before .before .before .before .before .if3 .left,
-      ← d .before .before .before .begins3 .ensures,
-      d .before .before .if4 .left,
-      ← d .begins4 .ensures,
-      c .before .before .before .before .before .before .before .if5 .left,
-      ← c .before .before .before .before .before .begins5 .ensures,
-      c .before .before .before .before .if6 .left,
-      eq-eqb _ _ (c .before .before .before .if7 .left),
-      ← c .before .begins6 .ensures,
-      c .if8 .taken,
-    )
-
-returns-9 : tie.Need-returns-9
-unfolding plainOf
-returns-9 c =
-    let d = c .before .before .before .before .before .before .before .before in
-    rw (
-      ne-eqb _ _ (d .before .before .before .before .before .before .before .before .before .before .before .if1 .left),
-      ← d .before .before .before .before .before .before .before .before .before .begins .ensures,
-      d .before .before .before .before .before .before .before .before .if2 .left,
-      ← d .before .before .before .before .before .before .begins2 .ensures,
-      d .before .before .before .before .before .if3 .left,
-      ← d .before .before .before .begins3 .ensures,
-      d .before .before .if4 .left,
-      ← d .begins4 .ensures,
-      c .before .before .before .before .before .before .before .if5 .left,
-      ← c .before .before .before .before .before .begins5 .ensures,
-      c .before .before .before .before .if6 .left,
-      eq-eqb _ _ (c .before .before .before .if7 .left),
-      ← c .before .begins6 .ensures,
-      c .if8 .left,
-    )
+    ) (c .alone .ensures)
 
 pub plain-spec : {M : Type 1} → statement M
 plain-spec =
@@ -288,8 +242,5 @@ plain-spec =
     part-room-end
     room-requires
     returns-6
-    returns-7
-    slice-aggregate-begins-6
-    begins-requires-6
-    returns-8
-    returns-9)
+    alone-requires
+    returns-7)
