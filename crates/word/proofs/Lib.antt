@@ -1,5 +1,6 @@
 -- Laws of the frame word, for the proofs here and in the crates above.
 pub mod Clash
+pub mod Checks
 pub mod Parity
 pub mod Fields
 pub mod Table

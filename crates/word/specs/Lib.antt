@@ -1,2 +1,3 @@
 -- What a reader must believe of the frame word.
 pub mod Frame
+pub mod Checks
