@@ -1,4 +1,4 @@
--- A bit of the checksum is linear in xor, so eight bits of a number are its high byte xored with the eight bits of its low byte.
+-- A bit of the checksum is linear in xor, so k bits of a number are what stands above its k low digits, xored with the k bits of those.
 -- Assumes nothing.
 use mathlib.Core.Path.{_≡_, refl, sym, ap, ap₂, _∙_}
 use Prim.Native.Nat.{ℕ, zero, suc, _+_, _*_, _/_, _%_, _^_, _<_}

@@ -1,21 +1,45 @@
-// The checksum of a Modbus message: CRC-16 with 0xA001, start 0xFFFF, low byte first. A table of 256 words takes the place of eight
-// bits; the contracts cite the bit-by-bit definition.
-mod table;
-
-use crate::table::TABLE;
+// The checksum of a Modbus message: CRC-16 with 0xA001, start 0xFFFF, low byte first. A table of 16 words takes the place of four bits, and
+// is small enough to be taken anew for each message; the contracts cite the bit-by-bit definition.
 ghost use mathlib.Core.Path.{_≡_};
 ghost use Prim.Native.Nat.{ℕ, _<_};
 ghost use lib.ListN.{getD};
 ghost use Rattle.crc.specs.Crc.{crcBits, crcByte, crcOf, passesOf};
 
-// The register after one more byte, by a table in which each byte has what it leaves after its eight bits.
-fn next(table: &[u16; 256], crc: u16, b: u8) -> u16
-    requires { ⌜ ((k : ℕ) → k < 256 → getD (now table) k 0 ≡ crcBits 8 k) ⌝ }
+// The 16 remainders: what each half of a byte leaves after its four bits.
+const TABLE: [u16; 16] = [
+    0x0000,
+    0xcc01,
+    0xd801,
+    0x1400,
+    0xf001,
+    0x3c00,
+    0x2800,
+    0xe401,
+    0xa001,
+    0x6c00,
+    0x7800,
+    0xb401,
+    0x5000,
+    0x9c01,
+    0x8801,
+    0x4400,
+];
+
+// The register after four bits.
+fn half(table: &[u16; 16], x: u16) -> u16
+    requires { ⌜ ((k : ℕ) → k < 16 → getD (now table) k 0 ≡ crcBits 4 k) ⌝ }
+    ensures { λ r. ⌜ r ≡ crcBits 4 x ⌝ }
+{
+    let low = (x % 16) as usize;
+    (x / 16) ^ table[low]
+}
+
+// The register after one more byte: its two halves.
+fn next(table: &[u16; 16], crc: u16, b: u8) -> u16
+    requires { ⌜ ((k : ℕ) → k < 16 → getD (now table) k 0 ≡ crcBits 4 k) ⌝ }
     ensures { λ r. ⌜ r ≡ crcByte crc b ⌝ }
 {
-    let x = crc ^ (b as u16);
-    let low = (x % 256) as usize;
-    (x / 256) ^ table[low]
+    half(table, half(table, crc ^ (b as u16)))
 }
 
 pub fn checksum(s: &[u8]) -> u16

@@ -1,103 +1,204 @@
--- The order of checks, for every message: where a check fails and those before it hold, its answer is given, whatever fails after it.
--- And a body in its wrapping is read as the body; a small room is refused and stays.
+-- The order of checks, for every message, in 01's words: where a check fails and those before it hold, its answer is given, whatever fails
+-- after it. And a body in its wrapping is read as the body; a small room is refused and stays.
 -- Assumes nothing.
-use mathlib.Core.Path.{_≡_}
-use mathlib.Core.Bool.{true, false}
+use mathlib.Core.Path.{_≡_, refl, ap, _∙_}
+use mathlib.Core.Logic.{_⊎_, inl, inr}
+use mathlib.Core.Bool.{Bool, true, false, cond, not, _&&_}
 use mathlib.Core.List.{List}
-use Prim.Native.Nat.{ℕ, _≤_}
+use Prim.Native.Nat.{ℕ, _≤_, _<_}
 use native.Mathlib.Omega.{arith}
-use borrow.Author.Tests.{le-leb}
-use lib.Dec.{eqb, leb, ltb}
+use borrow.Author.Tests.{le-leb, lt-leb, le-ltb, lt-ltb, eq-eqb, ne-eqb, eqb-false}
+use lib.Dec.{eqb}
 use lib.ListN.{length}
-use Rattle.crc.specs.Crc.{passesOf, sealed}
+use Rattle.word.specs.Checks.{Check, judged, Fails, here, later, Passes, none, all}
+use Rattle.word.proofs.Checks.{refuses, goes-on}
+use Rattle.crc.specs.Crc.{passesOf, sealed, unsealed}
 use Rattle.crc.proofs.Sealed.{length-sealed, sealed-passes, unsealed-sealed}
 use Rattle.modbus.specs.declared.QuestionType.{QuestionType}
-use Rattle.modbus.specs.declared.Reading.the-variants.{Accepted}
+use Rattle.modbus.specs.declared.Reading.{Reading}
+use Rattle.modbus.specs.declared.Reading.the-variants.{Silent, AtOnce, Accepted}
 use Rattle.modbus.specs.declared.Reply.{Reply}
+use Rattle.modbus.specs.declared.Reply.the-variants.{Value}
+use Rattle.modbus.specs.declared.Written.the-variants.{Count, Refused}
+use Rattle.modbus.specs.declared.rows.Found.{Found}
 use Rattle.modbus.specs.declared.rows.Found.the-variants.{First, Nothing}
 use Rattle.modbus.specs.declared.rows.Row.{Row}
-use Rattle.modbus.specs.declared.rows.Typed.the-variants.{Known, Unnamed}
+use Rattle.modbus.specs.declared.rows.Naming.the-variants.{Known, Unnamed}
 use Rattle.modbus.specs.declared.shape.Fields.{Fields}
-use Rattle.modbus.specs.Shape.{unitOf, functionOf, servedOf, formedOf, fieldsOf}
-use Rattle.modbus.specs.Mapping.{within, rows, firstOf, typeFrom, orderOf, atOnce, askOf, unlikeOf, mappedOf, ownOf, readOf}
-use Rattle.modbus.specs.Numbers.{refusalOf, roomRefusal}
-use Rattle.modbus.specs.Wire.{requestOf, writtenOf, roomOf}
+use Rattle.modbus.specs.Shape.{unitOf, functionOf, requestFields}
+use Rattle.modbus.specs.Mapping.{
+  mappingRows,
+  firstOf,
+  typeFrom,
+  asOrder,
+  atOnce,
+  typedAs,
+  askOf,
+  foundAs,
+  unlikeOf,
+  offsetChecks,
+  mappedOf,
+  ownChecks,
+  ownOf,
+  silentChecks,
+  formChecks,
+  bodySaid,
+  formRead,
+  bodyRead,
+}
+use Rattle.modbus.specs.Numbers.{refused, exception, two-value, bytes, readingVerdict, writtenVerdict}
+use Rattle.modbus.specs.Wire.{wireChecks, requestOf, bytesOf, placed, roomChecks, replyWritten, replyRoom}
+use Rattle.modbus.proofs.Served.{Serves, serves, unserved}
+use Rattle.modbus.proofs.Formed.{RightForm, formed, unformed}
+
+-- a check of the list fails and none before it: silence, or an exception, with its number
+silence : (cs : List Check) (next : Reading) {n : ℕ} → Fails cs n → readingVerdict (judged cs Silent next) ≡ refused n
+silence cs next f = ap readingVerdict (refuses Silent next f)
+
+excepted : (u f : ℕ) (cs : List Check) (next : Reading) {n : ℕ} → Fails cs n → readingVerdict (judged cs (atOnce u f) next) ≡ exception u f n
+excepted u f cs next fails = ap readingVerdict (refuses (atOnce u f) next fails)
 
 -- "length 4 to 256; checksum"
 module _ (s : List ℕ) where
-  pub eleven : within 4 256 (length s) ≡ false → refusalOf (requestOf s) ≡ 11
+  pub eleven : (length s < 4) ⊎ (256 < length s) → readingVerdict (requestOf s) ≡ refused 11
   unfolding requestOf
-  eleven h = rw h
+  eleven (inl short) = silence (wireChecks s) (bodyRead (unsealed s)) (here (lt-leb 4 (length s) short))
+  eleven (inr long) =
+      silence (wireChecks s) (bodyRead (unsealed s)) (later (le-leb 4 (length s) (omega arith)) (here (lt-leb (length s) 256 long)))
 
-  pub twelve : within 4 256 (length s) ≡ true → passesOf s ≡ false → refusalOf (requestOf s) ≡ 12
+  pub twelve : 4 ≤ length s → length s ≤ 256 → passesOf s ≡ false → readingVerdict (requestOf s) ≡ refused 12
   unfolding requestOf
-  twelve h k = rw (h, k)
+  twelve from upto other =
+      silence (wireChecks s) (bodyRead (unsealed s)) (later (le-leb 4 (length s) from) (later (le-leb (length s) 256 upto) (here other)))
 
--- "unit 1 to 5; function below 80; function served (else exception 01); exact length and byte count, then counts (03)"
+-- "unit 1 to 5; function below 80"
+pub record Addressed (b : List ℕ) : Type 0 where
+  pub from : 1 ≤ unitOf b
+  pub upto : unitOf b ≤ 5
+  pub below : functionOf b < 0x80
+
 module _ (b : List ℕ) where
-  pub thirteen : within 1 5 (unitOf b) ≡ false → refusalOf (readOf b) ≡ 13
-  unfolding readOf
-  thirteen h = rw h
+  pub thirteen : (unitOf b < 1) ⊎ (5 < unitOf b) → readingVerdict (bodyRead b) ≡ refused 13
+  unfolding bodyRead
+  thirteen (inl low) = silence (silentChecks b) (formRead b) (here (lt-leb 1 (unitOf b) low))
+  thirteen (inr high) =
+      silence (silentChecks b) (formRead b) (later (le-leb 1 (unitOf b) (omega arith)) (here (lt-leb (unitOf b) 5 high)))
 
-  pub fourteen : within 1 5 (unitOf b) ≡ true → ltb (functionOf b) 0x80 ≡ false → refusalOf (readOf b) ≡ 14
-  unfolding readOf
-  fourteen h k = rw (h, k)
+  pub fourteen : 1 ≤ unitOf b → unitOf b ≤ 5 → 0x80 ≤ functionOf b → readingVerdict (bodyRead b) ≡ refused 14
+  unfolding bodyRead
+  fourteen from upto high =
+      silence (silentChecks b) (formRead b)
+      (later (le-leb 1 (unitOf b) from) (later (le-leb (unitOf b) 5 upto) (here (le-ltb (functionOf b) 0x80 high))))
 
-  pub not-served : within 1 5 (unitOf b) ≡ true → ltb (functionOf b) 0x80 ≡ true → servedOf (unitOf b) (functionOf b) ≡ false →
-      readOf b ≡ atOnce (unitOf b) (functionOf b) 0x01
-  unfolding readOf
-  not-served h k l = rw (h, k, l)
+  addressed : Addressed b → Passes (silentChecks b)
+  addressed p = all (le-leb 1 (unitOf b) (p .from)) (all (le-leb (unitOf b) 5 (p .upto)) (all (lt-ltb (functionOf b) 0x80 (p .below)) none))
 
-  pub not-formed : within 1 5 (unitOf b) ≡ true → ltb (functionOf b) 0x80 ≡ true → servedOf (unitOf b) (functionOf b) ≡ true →
-      formedOf (functionOf b) b ≡ false → readOf b ≡ atOnce (unitOf b) (functionOf b) 0x03
-  unfolding readOf
-  not-formed h k l m = rw (h, k, l, m)
+  heard : Addressed b → readingVerdict (bodyRead b) ≡ readingVerdict (formRead b)
+  unfolding bodyRead
+  heard p = ap readingVerdict (goes-on Silent (formRead b) (addressed p))
 
--- those four have passed
+  -- "function served (else exception 01); exact length and byte count, then counts (03)"
+  pub not-served : Addressed b → (Serves (unitOf b) (functionOf b) → ⊥) → readingVerdict (bodyRead b) ≡ exception (unitOf b) (functionOf b) 0x01
+  not-served p other = heard p ∙ excepted (unitOf b) (functionOf b) (formChecks b) (bodySaid b) (here (unserved (unitOf b) (functionOf b) other))
+
+  pub not-formed : Addressed b → Serves (unitOf b) (functionOf b) → (RightForm b (functionOf b) → ⊥) →
+      readingVerdict (bodyRead b) ≡ exception (unitOf b) (functionOf b) 0x03
+  not-formed p served other = heard p ∙ excepted (unitOf b) (functionOf b) (formChecks b) (bodySaid b) (later (serves served) (here (unformed b served other)))
+
+-- those have passed
 pub record Formed (b : List ℕ) : Type 0 where
-  pub unit : within 1 5 (unitOf b) ≡ true
-  pub below : ltb (functionOf b) 0x80 ≡ true
-  pub served : servedOf (unitOf b) (functionOf b) ≡ true
-  pub formed : formedOf (functionOf b) b ≡ true
+  pub to : Addressed b
+  pub served : Serves (unitOf b) (functionOf b)
+  pub form : RightForm b (functionOf b)
 
 module _ (b : List ℕ) (p : Formed b) where
-  pub by-rows : eqb (unitOf b) 5 ≡ false → readOf b ≡ mappedOf (unitOf b) (fieldsOf (functionOf b) b)
-  unfolding readOf
-  by-rows off = rw (p .unit, p .below, p .served, p .formed, off)
+  said : bodyRead b ≡ bodySaid b
+  unfolding bodyRead
+  said =
+      goes-on Silent (formRead b) (addressed b (p .to)) ∙ goes-on (atOnce (unitOf b) (functionOf b)) (bodySaid b) {cs = formChecks b} (all (serves (p .served)) (all (formed b (p .form)) none))
+
+  by-unit : (five : Bool) → eqb (unitOf b) 5 ≡ five →
+      bodyRead b ≡ cond five (ownOf (requestFields (functionOf b) b)) (mappedOf (unitOf b) (requestFields (functionOf b) b))
+  by-unit five e = said ∙ ap (λ (t : Bool). cond t (ownOf (requestFields (functionOf b) b)) (mappedOf (unitOf b) (requestFields (functionOf b) b))) e
+
+  pub by-rows : (unitOf b ≡ 5 → ⊥) → bodyRead b ≡ mappedOf (unitOf b) (requestFields (functionOf b) b)
+  by-rows other = by-unit false (ne-eqb (unitOf b) 5 other)
 
   -- "Unit 5 serves .. at once and never makes an order"
-  pub by-itself : eqb (unitOf b) 5 ≡ true → readOf b ≡ ownOf (fieldsOf (functionOf b) b)
-  unfolding readOf
-  by-itself five = rw (p .unit, p .below, p .served, p .formed, five)
+  pub by-itself : unitOf b ≡ 5 → bodyRead b ≡ ownOf (requestFields (functionOf b) b)
+  by-itself five = by-unit true (eq-eqb (unitOf b) 5 five)
+
+-- "register 0076 reads 0100 (version 1.0); writing it, and every other register, is 02"
+module _ (a : Fields) where
+  pub version : a .reads ≡ 1 → a .from ≡ 0x0076 → readingVerdict (ownOf a) ≡ two-value 5 (a .function) 0x0100
+  unfolding ownOf
+  version one is =
+      ap readingVerdict
+      (goes-on (atOnce 5 (a .function)) (AtOnce (Value 5 (a .function) 0x0100)) {cs = ownChecks a} (all (eq-eqb (a .reads) 1 one) (all (eq-eqb (a .from) 0x0076 is) none)))
+
+  pub own-written : (a .reads ≡ 1 → ⊥) → readingVerdict (ownOf a) ≡ exception 5 (a .function) 0x02
+  unfolding ownOf
+  own-written other = excepted 5 (a .function) (ownChecks a) (AtOnce (Value 5 (a .function) 0x0100)) (here (ne-eqb (a .reads) 1 other))
+
+  pub own-other : a .reads ≡ 1 → (a .from ≡ 0x0076 → ⊥) → readingVerdict (ownOf a) ≡ exception 5 (a .function) 0x02
+  unfolding ownOf
+  own-other one other = excepted 5 (a .function) (ownChecks a) (AtOnce (Value 5 (a .function) 0x0100)) (later (eq-eqb (a .reads) 1 one) (here (ne-eqb (a .from) 0x0076 other)))
 
 -- "offset (02); type for 41 (03); .. accepted": no request that passes every check is refused
 module _ (u : ℕ) (a : Fields) where
-  pub unlike : unlikeOf a ≡ true → mappedOf u a ≡ atOnce u (a .function) 0x02
-  unfolding mappedOf
-  unlike e = rw e
+  -- "For 17 with both, the two offsets are equal (else 02)"
+  pub unlike : 1 ≤ a .reads → 1 ≤ a .writes → (a .from ≡ a .to → ⊥) → readingVerdict (mappedOf u a) ≡ exception u (a .function) 0x02
+  unfolding mappedOf unlikeOf
+  unlike r w other =
+      excepted u (a .function) (offsetChecks a) (foundAs u a (firstOf mappingRows a))
+      (here (rw (ne-eqb (a .reads) 0 (λ z. omega arith), ne-eqb (a .writes) 0 (λ z. omega arith), ne-eqb (a .from) (a .to) other)))
 
-  module _ (alike : unlikeOf a ≡ false) where
-    pub no-row : firstOf rows a ≡ Nothing → mappedOf u a ≡ atOnce u (a .function) 0x02
+  module _ (alike : 1 ≤ a .reads → 1 ≤ a .writes → a .from ≡ a .to) where
+    even-so : unlikeOf a ≡ false
+    unfolding unlikeOf
+    even-so = go (eqb (a .reads) 0) (eqb (a .writes) 0) refl refl
+      where
+        go : (r w : Bool) → eqb (a .reads) 0 ≡ r → eqb (a .writes) 0 ≡ w → (not r && (not w && not (eqb (a .from) (a .to)))) ≡ false
+        go true w er ew = refl
+        go false true er ew = refl
+        go false false er ew =
+            let r = eqb-false (a .reads) 0 er in
+            let w = eqb-false (a .writes) 0 ew in
+            rw (eq-eqb (a .from) (a .to) (alike (omega (arith, r)) (omega (arith, w))))
+
+    found : (f : Found) → firstOf mappingRows a ≡ f → mappedOf u a ≡ foundAs u a f
     unfolding mappedOf
-    no-row e = rw (alike, e)
+    found f e = goes-on (atOnce u (a .function)) (foundAs u a (firstOf mappingRows a)) {cs = offsetChecks a} (all (ap not even-so) none) ∙ ap (foundAs u a) e
 
-    module _ (r : Row) (fits : firstOf rows a ≡ First r) where
-      pub no-type : typeFrom (r .4) (a .message) ≡ Unnamed → mappedOf u a ≡ atOnce u (a .function) 0x03
-      unfolding mappedOf askOf
-      no-type e = rw (alike, fits, e)
+    pub no-row : firstOf mappingRows a ≡ Nothing → readingVerdict (mappedOf u a) ≡ exception u (a .function) 0x02
+    no-row e = ap readingVerdict (found Nothing e)
 
-      pub taken : (t : QuestionType) → typeFrom (r .4) (a .message) ≡ Known t → mappedOf u a ≡ Accepted (orderOf u a t (r .5))
-      unfolding mappedOf askOf
-      taken t e = rw (alike, fits, e)
+    module _ (r : Row) (fits : firstOf mappingRows a ≡ First r) where
+      pub no-type : typeFrom (r .4) (a .message) ≡ Unnamed → readingVerdict (mappedOf u a) ≡ exception u (a .function) 0x03
+      unfolding askOf
+      no-type e = ap readingVerdict (found (First r) fits ∙ ap (typedAs u a r) e)
+
+      pub taken : (t : QuestionType) → typeFrom (r .4) (a .message) ≡ Known t → mappedOf u a ≡ Accepted (asOrder u a r t)
+      unfolding askOf
+      taken t e = found (First r) fits ∙ ap (typedAs u a r) e
 
 -- a body with its checksum behind it is read as the body
-pub unwrapped : (b : List ℕ) → 2 ≤ length b → length b ≤ 254 → requestOf (sealed b) ≡ readOf b
+pub unwrapped : (b : List ℕ) → 2 ≤ length b → length b ≤ 254 → requestOf (sealed b) ≡ bodyRead b
 unfolding requestOf
 unwrapped b h k =
     let n = length-sealed b in
-    rw (le-leb 4 (length (sealed b)) (omega arith), le-leb (length (sealed b)) 256 (omega arith), sealed-passes b, unsealed-sealed b)
+    goes-on Silent (bodyRead (unsealed (sealed b))) {cs = wireChecks (sealed b)}
+    (all (le-leb 4 (length (sealed b)) (omega arith)) (all (le-leb (length (sealed b)) 256 (omega arith)) (all (sealed-passes b) none)))
+    ∙ ap bodyRead (unsealed-sealed b)
 
 -- refusal 15: "lent room below 16 bytes (reply)", and "every lent byte stay[s]"
-pub fifteen : (r : Reply) (room : List ℕ) → leb 16 (length room) ≡ false → (roomRefusal (writtenOf r room) ≡ 15) × (roomOf r room ≡ room)
-unfolding writtenOf roomOf
-fifteen r room h = (rw h, rw h)
+pub fifteen : (r : Reply) (room : List ℕ) → length room < 16 → (writtenVerdict (replyWritten r room) ≡ refused 15) × (replyRoom r room ≡ room)
+unfolding replyWritten replyRoom
+fifteen r room low =
+    let small : Fails (roomChecks room) 15 = here (lt-leb 16 (length room) low) in
+    (ap writtenVerdict (refuses Refused (Count (length (bytesOf r))) small), refuses (λ n. room) (placed (bytesOf r) room) small)
+
+-- and 16 bytes are enough
+pub sixteen : (r : Reply) (room : List ℕ) → 16 ≤ length room → writtenVerdict (replyWritten r room) ≡ bytes (length (bytesOf r))
+unfolding replyWritten
+sixteen r room h = ap writtenVerdict (goes-on Refused (Count (length (bytesOf r))) (all (le-leb _ (length room) (omega (arith, h))) none))

@@ -2,19 +2,21 @@
 -- the right form. Unit 5 never makes one. Of a message of bytes, the question's fields are those of a word.
 -- Assumes nothing.
 use mathlib.Core.Path.{_≡_, refl, sym, ap, _∙_}
-use mathlib.Core.Bool.{Bool, true, false, cond, not, _&&_}
+use mathlib.Core.Logic.{_⊎_, inl, inr}
+use mathlib.Core.Bool.{Bool, true, false, cond, _&&_}
 use mathlib.Core.List.{List, [], _∷_}
 use Prim.Native.Nat.{ℕ, zero, suc, _+_, _-_, _*_, _%_, _≤_, _<_}
 use native.Mathlib.Omega.{arith}
 use borrow.Author.Tests.{leb-true, eqb-true, eqb-false}
-use lib.Dec.{eqb, leb, ltb, lit<}
+use lib.Dec.{eqb, leb, lit<}
 use lib.ListN.{length, getD, take}
+use Rattle.word.specs.Checks.{Check, judged, Fails, Passes, all}
+use Rattle.word.proofs.Checks.{refuses, goes-on, either}
 use Rattle.word.proofs.Clash.{clash}
 use Rattle.places.specs.Bytes.{pairAt}
 use Rattle.word.proofs.Match.{both}
 use Rattle.places.proofs.Place.{pair-past}
-use Rattle.crc.specs.Crc.{passesOf, unsealed}
-use Rattle.modbus.specs.declared.Form.{Form}
+use Rattle.crc.specs.Crc.{unsealed}
 use Rattle.modbus.specs.declared.Order.{Order}
 use Rattle.modbus.specs.declared.QuestionType.{QuestionType}
 use Rattle.modbus.specs.declared.Reading.the-variants.{Silent, AtOnce, Accepted}
@@ -22,109 +24,110 @@ use Rattle.modbus.specs.declared.Reply.{Reply}
 use Rattle.modbus.specs.declared.Reply.the-variants.{Exception, Value}
 use Rattle.modbus.specs.declared.rows.Found.{Found}
 use Rattle.modbus.specs.declared.rows.Found.the-variants.{First, Nothing}
-use Rattle.modbus.specs.declared.rows.Typed.{Typed}
-use Rattle.modbus.specs.declared.rows.Typed.the-variants.{Known, Unnamed}
+use Rattle.modbus.specs.declared.rows.Row.{Row}
+use Rattle.modbus.specs.declared.rows.Naming.{Naming}
+use Rattle.modbus.specs.declared.rows.Naming.the-variants.{Known, Unnamed}
 use Rattle.modbus.specs.declared.shape.Fields.{Fields}
-use Rattle.modbus.specs.Shape.{unitOf, functionOf, servedOf, bothFormed, formedOf, readFields, writeFields, bothFields, fieldsOf}
+use Rattle.modbus.specs.Shape.{unitOf, functionOf, bothFormed, formedOf, readFields, writeFields, bothFields, requestFields}
 use Rattle.modbus.specs.Mapping.{
-  unless,
-  within,
-  rows,
+  mappingRows,
   firstOf,
   typeFrom,
-  orderOf,
+  asOrder,
   atOnce,
   typedAs,
   askOf,
   foundAs,
-  unlikeOf,
+  offsetChecks,
   mappedOf,
+  ownChecks,
   ownOf,
-  readOf,
+  silentChecks,
+  formChecks,
+  bodySaid,
+  formRead,
+  bodyRead,
 }
-use Rattle.modbus.specs.Wire.{requestOf}
+use Rattle.modbus.specs.Wire.{wireChecks, requestOf}
 
--- a check whose answer is another one has passed
-pub passed : {A : Type 0} (holds : Bool) (answer next r : A) → unless holds answer next ≡ r → (answer ≡ r → ⊥) → (holds ≡ true) × (next ≡ r)
-passed true answer next r e n = (refl, e)
-passed false answer next r e n = absurd (n e)
+-- where every refusal is another answer, each check has passed
+pub passed : {A : Type 0} (cs : List Check) (refusal : ℕ → A) (next r : A) → ((n : ℕ) → refusal n ≡ r → ⊥) → judged cs refusal next ≡ r
+    → Passes cs × (next ≡ r)
+passed cs refusal next r other e = go (either cs)
+  where
+    go : ((n : ℕ) × Fails cs n) ⊎ Passes cs → Passes cs × (next ≡ r)
+    go (inl f) = absurd (other (f .0) (sym (refuses refusal next (f .1)) ∙ e))
+    go (inr p) = (p, sym (goes-on refusal next p) ∙ e)
 
-silent-never : (n : ℕ) (o : Order) → Silent n ≡ Accepted o → ⊥
-silent-never n o e = clash cc
+silent-never : (o : Order) (n : ℕ) → Silent n ≡ Accepted o → ⊥
+silent-never o n e = clash cc
 
 at-once-never : (r : Reply) (o : Order) → AtOnce r ≡ Accepted o → ⊥
 at-once-never r o e = clash cc
 
+-- and no exception is an order
+at-once-no : (u f : ℕ) (o : Order) (n : ℕ) → atOnce u f n ≡ Accepted o → ⊥
+at-once-no u f o n = at-once-never (Exception u f n) o
+
 own-never : (a : Fields) (o : Order) → ownOf a ≡ Accepted o → ⊥
 unfolding ownOf
-own-never a o = go (eqb (a .reads) 1 && eqb (a .from) 0x0076)
-  where
-    go : (b : Bool) → cond b (AtOnce (Value 5 (a .function) 0x0100)) (atOnce 5 (a .function) 0x02) ≡ Accepted o → ⊥
-    go true e = at-once-never (Value 5 (a .function) 0x0100) o e
-    go false e = at-once-never (Exception 5 (a .function) 0x02) o e
+own-never a o e =
+    let p = passed (ownChecks a) (atOnce 5 (a .function)) (AtOnce (Value 5 (a .function) 0x0100)) (Accepted o) (at-once-no 5 (a .function) o) e in
+    at-once-never (Value 5 (a .function) 0x0100) o (p .1)
 
--- the order that a row's fields make, of some type and form
+-- the order that a request's fields and some row make, of some type
 pub record Made (u : ℕ) (a : Fields) (o : Order) : Type 0 where
   pub t : QuestionType
-  pub m : Form
-  pub same : o ≡ orderOf u a t m
+  pub r : Row
+  pub same : o ≡ asOrder u a r t
 
-typed-made : (u : ℕ) (a : Fields) (m : Form) (t : Typed) (o : Order) → typedAs u a m t ≡ Accepted o → Made u a o
-typed-made u a m (Known t) o e = record { t = t; m = m; same = cc }
-typed-made u a m Unnamed o e = absurd (at-once-never (Exception u (a .function) 0x03) o e)
+typed-made : (u : ℕ) (a : Fields) (r : Row) (t : Naming) (o : Order) → typedAs u a r t ≡ Accepted o → Made u a o
+typed-made u a r (Known t) o e = record { t = t; r = r; same = cc }
+typed-made u a r Unnamed o e = absurd (at-once-never (Exception u (a .function) 0x03) o e)
 
 found-made : (u : ℕ) (a : Fields) (f : Found) (o : Order) → foundAs u a f ≡ Accepted o → Made u a o
 unfolding askOf
-found-made u a (First r) o e = typed-made u a (r .5) (typeFrom (r .4) (a .message)) o e
+found-made u a (First r) o e = typed-made u a r (typeFrom (r .4) (a .message)) o e
 found-made u a Nothing o e = absurd (at-once-never (Exception u (a .function) 0x02) o e)
 
 mapped-made : (u : ℕ) (a : Fields) (o : Order) → mappedOf u a ≡ Accepted o → Made u a o
 unfolding mappedOf
 mapped-made u a o e =
-    let p = passed (not (unlikeOf a)) (atOnce u (a .function) 0x02) (foundAs u a (firstOf rows a)) (Accepted o) e
-    (at-once-never (Exception u (a .function) 0x02) o) in
-    found-made u a (firstOf rows a) o (p .1)
+    let p = passed (offsetChecks a) (atOnce u (a .function)) (foundAs u a (firstOf mappingRows a)) (Accepted o) (at-once-no u (a .function) o) e in
+    found-made u a (firstOf mappingRows a) o (p .1)
 
 pub record Taken (b : List ℕ) (o : Order) : Type 0 where
   pub low : 1 ≤ unitOf b
   pub high : unitOf b ≤ 4
   pub formed : formedOf (functionOf b) b ≡ true
-  pub made : Made (unitOf b) (fieldsOf (functionOf b) b) o
+  pub made : Made (unitOf b) (requestFields (functionOf b) b) o
 
 -- a body that is read as an order
-pub taken : (b : List ℕ) (o : Order) → readOf b ≡ Accepted o → Taken b o
-unfolding readOf
+pub taken : (b : List ℕ) (o : Order) → bodyRead b ≡ Accepted o → Taken b o
+unfolding bodyRead
 taken b o e =
     let u = unitOf b in
     let f = functionOf b in
-    let a = fieldsOf f b in
-    let last = cond (eqb u 5) (ownOf a) (mappedOf u a) in
-    let one = passed (within 1 5 u) (Silent 13) _ (Accepted o) e (silent-never 13 o) in
-    let two = passed (ltb f 0x80) (Silent 14) _ (Accepted o) (one .1) (silent-never 14 o) in
-    let three = passed (servedOf u f) (atOnce u f 0x01) _ (Accepted o) (two .1) (at-once-never (Exception u f 0x01) o) in
-    let four = passed (formedOf f b) (atOnce u f 0x03) last (Accepted o) (three .1) (at-once-never (Exception u f 0x03) o) in
-    let units = both (leb 1 u) (leb u 5) (one .0) in
-    go (eqb u 5) refl (leb-true 1 u (units .0)) (leb-true u 5 (units .1)) (four .0) (four .1)
+    let one = passed (silentChecks b) Silent (formRead b) (Accepted o) (silent-never o) e in
+    let two = passed (formChecks b) (atOnce u f) (bodySaid b) (Accepted o) (at-once-no u f o) (one .1) in
+    go (eqb u 5) refl (one .0) (two .0) (two .1)
   where
-    go : (five : Bool) → eqb (unitOf b) 5 ≡ five → 1 ≤ unitOf b → unitOf b ≤ 5 → formedOf (functionOf b) b ≡ true
-        → cond five (ownOf (fieldsOf (functionOf b) b)) (mappedOf (unitOf b) (fieldsOf (functionOf b) b)) ≡ Accepted o → Taken b o
-    go true h lo hi fm e = absurd (own-never (fieldsOf (functionOf b) b) o e)
-    go false h lo hi fm e =
+    go : (five : Bool) → eqb (unitOf b) 5 ≡ five → Passes (silentChecks b) → Passes (formChecks b)
+        → cond five (ownOf (requestFields (functionOf b) b)) (mappedOf (unitOf b) (requestFields (functionOf b) b)) ≡ Accepted o → Taken b o
+    go true h units forms e = absurd (own-never (requestFields (functionOf b) b) o e)
+    go false h (all lo (all hi units)) (all served (all formed forms)) e =
         let other : unitOf b ≡ 5 → ⊥ = eqb-false (unitOf b) 5 h in
         record {
-          low = lo;
-          high = omega (arith, other);
-          formed = fm;
-          made = mapped-made (unitOf b) (fieldsOf (functionOf b) b) o e;
+          low = leb-true 1 (unitOf b) lo;
+          high = omega (arith, other, leb-true (unitOf b) 5 hi);
+          formed = formed;
+          made = mapped-made (unitOf b) (requestFields (functionOf b) b) o e;
         }
 
 -- and a whole message
 pub accepted : (s : List ℕ) (o : Order) → requestOf s ≡ Accepted o → Taken (unsealed s) o
 unfolding requestOf
-accepted s o e =
-    let one = passed (within 4 256 (length s)) (Silent 11) _ (Accepted o) e (silent-never 11 o) in
-    let two = passed (passesOf s) (Silent 12) _ (Accepted o) (one .1) (silent-never 12 o) in
-    taken (unsealed s) o (two .1)
+accepted s o e = taken (unsealed s) o (passed (wireChecks s) Silent (bodyRead (unsealed s)) (Accepted o) (silent-never o) e .1)
 
 -- "Units 1 to 4 are the lines of the same number"; "Unit 5 .. never makes an order"
 pub on-line : (s : List ℕ) (o : Order) → requestOf s ≡ Accepted o → (o .line ≡ unitOf (unsealed s)) × ((1 ≤ o .line) × (o .line ≤ 4))
@@ -166,8 +169,8 @@ pair-fits : (s : List ℕ) (p : ℕ) → Bytes s → pairAt s p < 65536
 unfolding pairAt
 pair-fits s p h = omega (arith, h p, h (p + 1))
 
-value-fits : (f : ℕ) (b : List ℕ) → Bytes b → fieldsOf f b .value < 65536
-unfolding fieldsOf
+value-fits : (f : ℕ) (b : List ℕ) → Bytes b → requestFields f b .value < 65536
+unfolding requestFields
 value-fits f b h = go (eqb f 0x06) (eqb f 0x10) (eqb f 0x17) (eqb f 0x41)
   where
     go : (one many sides whole : Bool) →
@@ -186,5 +189,5 @@ question-fits s o h e =
     let t = accepted s o e in
     let b = unsealed s in
     let i : o .question .id ≡ o .offset % 256 = id-of-offset s o e in
-    let v : o .question .value ≡ fieldsOf (functionOf b) b .value = ap (λ (p : Order). p .question .value) (t .made .same) in
+    let v : o .question .value ≡ requestFields (functionOf b) b .value = ap (λ (p : Order). p .question .value) (t .made .same) in
     (omega arith, omega (arith, value-fits (functionOf b) b (take-bytes (length s - 2) s h)))

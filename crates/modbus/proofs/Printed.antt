@@ -9,9 +9,9 @@ use Rattle.modbus.specs.declared.Outcome.{Outcome}
 use Rattle.modbus.specs.declared.Outcome.the-variants.{Answer, NoAnswer}
 use Rattle.modbus.specs.declared.Reading.{Reading}
 use Rattle.modbus.specs.declared.Reading.the-variants.{Silent, AtOnce, Accepted}
-use Rattle.modbus.specs.Shape.{servedOf, readFormed, manyFormed, bothFormed, formedOf, fieldsOf}
-use Rattle.modbus.specs.Mapping.{typeNumber, fitsOf, firstOf, askOf, unlikeOf, mappedOf, ownOf, readOf}
-use Rattle.modbus.specs.Outcomes.{codeOf, plainOf, ofInvalid, answeredOf, answerOf}
+use Rattle.modbus.specs.Shape.{readFormed, manyFormed, bothFormed, formedOf, requestFields}
+use Rattle.modbus.specs.Mapping.{typeNumber, fitsOf, firstOf, servedOf, askOf, unlikeOf, mappedOf, ownOf, bodyRead}
+use Rattle.modbus.specs.Outcomes.{codeOf, ordinaryOf, ofInvalid, normalOf, answerOf}
 use Rattle.modbus.specs.Wire.{bodyOf}
 
 -- line, type, id, value of the question that goes out
@@ -42,8 +42,8 @@ pub data Entry : Type 0 where
   says : List ℕ → List ℕ → Entry
 
 abbrev pub Holds : Entry → Type 0
-Holds (asks b q ws rs) = (goesOut (readOf b) ≡ q) × (map (comesBack (readOf b)) ws ≡ rs)
-Holds (says b r) = (goesOut (readOf b) ≡ []) × (comesBack (readOf b) NoAnswer ≡ r)
+Holds (asks b q ws rs) = (goesOut (bodyRead b) ≡ q) × (map (comesBack (bodyRead b)) ws ≡ rs)
+Holds (says b r) = (goesOut (bodyRead b) ≡ []) × (comesBack (bodyRead b) NoAnswer ≡ r)
 
 abbrev pub All : List Entry → Type 0
 All [] = Unit
@@ -113,8 +113,8 @@ _and_ : {A B : Type 0} → A → B → A × B
 a and b = (a, b)
 
 pub printed : All table
-unfolding pairAt servedOf readFormed manyFormed bothFormed formedOf fieldsOf fitsOf firstOf askOf unlikeOf mappedOf ownOf readOf codeOf
-    plainOf ofInvalid answeredOf answerOf bodyOf
+unfolding pairAt servedOf readFormed manyFormed bothFormed formedOf requestFields fitsOf firstOf askOf unlikeOf mappedOf ownOf bodyRead codeOf
+    ordinaryOf ofInvalid normalOf answerOf bodyOf
 printed =
     (refl, refl) and (refl, refl) and (refl, refl) and (refl, refl) and (refl, refl) and (refl, refl) and (refl, refl)
     and (refl, refl) and (refl, refl) and (refl, refl) and (refl, refl) and (refl, refl) and (refl, refl) and (refl, refl)

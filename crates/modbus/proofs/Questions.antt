@@ -6,9 +6,10 @@ use lib.Dec.{lit≤}
 use Rattle.word.proofs.Clash.{clash}
 use Rattle.word.specs.Frame.{bare, evened, builtOf}
 use Rattle.word.specs.declared.Built.the-variants.{Word, Refused}
+use Rattle.modbus.specs.declared.Question.{Question}
 use Rattle.modbus.specs.declared.QuestionType.{QuestionType}
 use Rattle.modbus.specs.declared.QuestionType.the-variants.{ReadData, WriteData, InvalidData}
-use Rattle.modbus.specs.Mapping.{typeNumber}
+use Rattle.modbus.specs.Mapping.{typeNumber, wordOf}
 
 pub small-type : (t : QuestionType) → typeNumber t ≤ 2
 small-type ReadData = lit≤ tt
@@ -20,6 +21,11 @@ unfolding builtOf
 always-built ReadData i v = refl
 always-built WriteData i v = refl
 always-built InvalidData i v = refl
+
+-- and the word that is built is the question's
+pub is-word : (w : ℕ) (q : Question) → Word w ≡ builtOf (typeNumber (q .t)) (q .id) (q .value) → w ≡ wordOf q
+unfolding wordOf
+is-word w q e = let built = always-built (q .t) (q .id) (q .value) in cc
 
 pub never-refused : (n : ℕ) (t : QuestionType) (i v : ℕ) → Refused n ≡ builtOf (typeNumber t) i v → ⊥
 never-refused n t i v e = let built = always-built t i v in clash cc

@@ -23,24 +23,24 @@ busyOf o = exceptionOf o 0x06
 unfoldable pub codeOf : ℕ → ℕ
 codeOf t = cond (eqb t unknown-dataid) 0x02 0x04
 
-unfoldable pub plainOf : Order → ℕ → Reply → Reply
-plainOf o t normal = cond (eqb t data-invalid || eqb t unknown-dataid) (exceptionOf o (codeOf t)) normal
+unfoldable pub ordinaryOf : Order → ℕ → Reply → Reply
+ordinaryOf o t reply = cond (eqb t data-invalid || eqb t unknown-dataid) (exceptionOf o (codeOf t)) reply
 
 unfoldable pub ofInvalid : Order → ℕ → Reply → Reply
-ofInvalid o t normal = cond (eqb t unknown-dataid) (exceptionOf o (codeOf t)) normal
+ofInvalid o t reply = cond (eqb t unknown-dataid) (exceptionOf o (codeOf t)) reply
 
 -- the table's third column, a line a form, for a boiler's frame of type t and value v; "Type 6 is a normal reply in the last 17 row;
 -- 41 gives types 4 to 7 as normal replies"
-unfoldable pub answeredOf : Form → Order → ℕ → ℕ → Reply
-answeredOf form.Value o t v = plainOf o t (Value (o .line) (o .function) v)
-answeredOf form.OffsetValue o t v = plainOf o t (Offset (o .line) (o .function) (o .offset) v)
-answeredOf form.OffsetOne o t v = plainOf o t (Offset (o .line) (o .function) (o .offset) 0x0001)
-answeredOf form.Zero o t v = plainOf o t (Zero (o .line) (o .function))
-answeredOf form.Never o t v = exceptionOf o (codeOf t)
-answeredOf form.ValueOfInvalid o t v = ofInvalid o t (Value (o .line) (o .function) v)
-answeredOf form.Whole o t v = Whole (o .line) (o .offset) v t
+unfoldable pub normalOf : Form → Order → ℕ → ℕ → Reply
+normalOf form.Value o t v = ordinaryOf o t (Value (o .line) (o .function) v)
+normalOf form.OffsetValue o t v = ordinaryOf o t (Offset (o .line) (o .function) (o .offset) v)
+normalOf form.OffsetOne o t v = ordinaryOf o t (Offset (o .line) (o .function) (o .offset) 0x0001)
+normalOf form.Zero o t v = ordinaryOf o t (Zero (o .line) (o .function))
+normalOf form.Never o t v = exceptionOf o (codeOf t)
+normalOf form.ValueOfInvalid o t v = ofInvalid o t (Value (o .line) (o .function) v)
+normalOf form.Whole o t v = Whole (o .line) (o .offset) v t
 
 -- "no answer is 0B"
 unfoldable pub answerOf : Order → Outcome → Reply
-answerOf o (Answer t v) = answeredOf (o .form) o t v
+answerOf o (Answer t v) = normalOf (o .form) o t v
 answerOf o NoAnswer = exceptionOf o 0x0b

@@ -3,7 +3,7 @@
 -- Assumes nothing: these are definitions.
 use Prim.Native.Nat.{ℕ, _+_, _*_}
 use mathlib.Core.List.{List}
-use mathlib.Core.Bool.{Bool, cond, not, _&&_, _||_}
+use mathlib.Core.Bool.{Bool, cond, _&&_}
 use lib.ListN.{length, getD}
 use lib.Dec.{eqb, leb}
 use Rattle.places.specs.Bytes.{pairAt}
@@ -14,12 +14,6 @@ unitOf b = getD b 0 0
 
 abbrev pub functionOf : List ℕ → ℕ
 functionOf b = getD b 1 0
-
--- "function served": those of the table; "Unit 5 serves 03, 04, 06, 10"
-unfoldable pub servedOf : ℕ → ℕ → Bool
-servedOf u f =
-    eqb f 0x03
-    || (eqb f 0x04 || (eqb f 0x06 || (eqb f 0x10 || (not (eqb u 5) && (eqb f 0x17 || eqb f 0x41)))))
 
 -- "exact length and byte count, then counts"; "Counts are 1 (for 17: 0 or 1 each, not both 0)."
 
@@ -68,14 +62,10 @@ bothFields b =
       message = 0;
     }
 
-unfoldable pub fieldsOf : ℕ → List ℕ → Fields
-fieldsOf f b =
+unfoldable pub requestFields : ℕ → List ℕ → Fields
+requestFields f b =
     cond (eqb f 0x06) (writeFields f (pairAt b 2) (pairAt b 4) 0)
     (cond (eqb f 0x10) (writeFields f (pairAt b 2) (pairAt b 7) 0)
     (cond (eqb f 0x17) (bothFields b)
     (cond (eqb f 0x41) (writeFields f (pairAt b 2) (pairAt b 4) (pairAt b 6))
     (readFields f (pairAt b 2)))))
-
--- "with one, only that side's offset is looked at"; with both they are equal
-abbrev pub offsetOf : Fields → ℕ
-offsetOf a = cond (eqb (a .reads) 1) (a .from) (a .to)

@@ -1,12 +1,14 @@
 -- The serial wrapping (01, 'Modbus' and 'Numbered answers'): a message and its checksum, a reply's bytes, and a lent room.
 -- Assumes nothing: these are definitions.
 use Prim.Native.Nat.{ℕ, _+_, _*_, _%_}
+use mathlib.Core.Path.{_≡_}
 use mathlib.Core.List.{List, [], _∷_, _++_}
 use lib.Dec.{leb}
-use lib.ListN.{length, drop}
+use lib.ListN.{length, getD, drop}
+use Rattle.word.specs.Checks.{Check, must, judged}
 use Rattle.places.specs.Bytes.{pair}
 use Rattle.crc.specs.Crc.{passesOf, sealed, unsealed}
-use Rattle.modbus.specs.Mapping.{unless, within, readOf}
+use Rattle.modbus.specs.Mapping.{bodyRead}
 use Rattle.modbus.specs.declared.Reading.{Reading}
 use Rattle.modbus.specs.declared.Reading.the-variants.{Silent}
 use Rattle.modbus.specs.declared.Reply.{Reply}
@@ -15,8 +17,11 @@ use Rattle.modbus.specs.declared.Written.{Written}
 use Rattle.modbus.specs.declared.Written.the-variants.{Count, Refused}
 
 -- "Order of checks: length 4 to 256; checksum;" and then those of the body
+abbrev pub wireChecks : List ℕ → List Check
+wireChecks s = must 11 (leb 4 (length s)) ∷ must 11 (leb (length s) 256) ∷ must 12 (passesOf s) ∷ []
+
 unfoldable pub requestOf : List ℕ → Reading
-requestOf s = unless (within 4 256 (length s)) (Silent 11) (unless (passesOf s) (Silent 12) (readOf (unsealed s)))
+requestOf s = judged (wireChecks s) Silent (bodyRead (unsealed s))
 
 -- a reply's bytes before its checksum; an exception sets the function's highest bit
 unfoldable pub bodyOf : Reply → List ℕ
@@ -30,13 +35,28 @@ bodyOf (Whole u o v t) = u ∷ 0x41 ∷ pair o (pair v (0x00 ∷ (t % 16 * 16) �
 unfoldable pub bytesOf : Reply → List ℕ
 bytesOf r = sealed (bodyOf r)
 
+-- where the body of a reply has the boiler's value
+pub data ValueAt (b : List ℕ) : ℕ → Type 0 where
+  -- "02, value"
+  value : length b ≡ 5 → ValueAt b 3
+  -- 06: "offset, value from the boiler"
+  offset-value : length b ≡ 6 → getD b 1 0 ≡ 0x06 → ValueAt b 4
+  -- 41: "offset, value, 00, type times 16"
+  whole : length b ≡ 8 → ValueAt b 4
+
 -- bytes in front of a room; "Bytes of a lent room behind the reply .. stay"
 abbrev pub placed : List ℕ → List ℕ → List ℕ
 placed b room = b ++ drop (length b) room
 
--- refusal 15: "lent room below 16 bytes (reply)"
-unfoldable pub writtenOf : Reply → List ℕ → Written
-writtenOf r room = unless (leb 16 (length room)) (Refused 15) (Count (length (bytesOf r)))
+-- "lent room below 16 bytes (reply)"
+abbrev pub least-room : ℕ
+least-room = 16
 
-unfoldable pub roomOf : Reply → List ℕ → List ℕ
-roomOf r room = unless (leb 16 (length room)) room (placed (bytesOf r) room)
+abbrev pub roomChecks : List ℕ → List Check
+roomChecks room = must 15 (leb least-room (length room)) ∷ []
+
+unfoldable pub replyWritten : Reply → List ℕ → Written
+replyWritten r room = judged (roomChecks room) Refused (Count (length (bytesOf r)))
+
+unfoldable pub replyRoom : Reply → List ℕ → List ℕ
+replyRoom r room = judged (roomChecks room) (λ n. room) (placed (bytesOf r) room)

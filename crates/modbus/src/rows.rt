@@ -14,8 +14,8 @@ pub enum Asks {
     ByMessage,
 }
 
-// Function, registers read and written, offset page, question type, reply form.
-pub struct Row(pub u8, pub u16, pub u16, pub Page, pub Asks, pub Form);
+// Function, registers read and written, offset page, question type, reply form: eight bytes.
+pub struct Row(pub u8, pub u8, pub u8, pub Page, pub Asks, pub Form);
 
 pub enum Found {
     First(Row),
@@ -23,7 +23,7 @@ pub enum Found {
 }
 
 // What a row and the message field give for a type.
-pub enum Typed {
+pub enum Naming {
     Known(QuestionType),
     Unnamed,
 }

@@ -1,18 +1,27 @@
-// otcost: does one thing so many times, for tests/cost to count instructions. Standard input is a letter and a decimal number: `s`
-// samples, `t` ticks of four resting lines, `b` boiler frames that are in time and don't match, `m` messages of 8 bytes that find an
-// order waiting. It prints how many of them were answered, so that none can be left out.
+// otcost: brings a box into a state and then lets one thing happen to it so many times, for tests/cost to count instructions. State, line,
+// words and message come from standard input, so that the compiler knows none of them; and each entry is called in two places, in the
+// set-up and in a loop that counts, so that it stays a function of its own and is measured as such. It prints how many were answered.
+//
+// Standard input is a block of 128 bytes; those that don't come are 0:
+//   0        what happens: `s` a sample, `t` a tick, `h` a thermostat frame, `b` a boiler frame, `m` a message
+//   1-15     how often, in decimal
+//   16       after how many of them the box is put back into its state
+//   17       the line of a frame
+//   18-21    the word of a frame, or of the frame that the samples are of
+//   22       the length of a message, up to 32
+//   32-63    the message
+//   64-127   eight events of set-up, 8 bytes each: `t`, `h`, `b`, `m` or nothing; the line; two unused; the word, or for
+//            `t` how often
 use gateway::Gateway;
-use gateway::Moved;
 use gateway::Told;
 use libc::STDIN_FILENO;
+use places::byte_at;
+use places::word_at;
 use print::print;
 use reader::Answer;
 use reader::Reader;
 use text::Text;
 use word::Frame;
-
-// The question of id 25 on unit 1, with its checksum.
-const QUESTION: [u8; 8] = [0x01, 0x04, 0x00, 0x19, 0x00, 0x01, 0xe0, 0x0d];
 
 fn answers(count: u32, a: Answer) -> u32 {
     match a {
@@ -38,9 +47,9 @@ fn fed(room: &[u8; 704], n: u32) -> u32 {
 }
 
 // A frame with 24 idle samples before it, over and over.
-fn samples_of(n: u32) -> u32 {
+fn samples(word: u32, n: u32) -> u32 {
     let mut room = [0u8; 704];
-    writer::write(0x8019_0000, &mut room[24..704]);
+    writer::write(word, &mut room[24..704]);
     fed(&room, n)
 }
 
@@ -51,70 +60,121 @@ fn told(count: u32, t: Told) -> u32 {
     }
 }
 
-fn ticked(g: Gateway, n: u32, room: &mut [u8]) -> Moved {
-    let mut gateway = g;
-    let mut last = Told::Quiet;
+fn ticks(start: Gateway, again: u8, n: u32, room: &mut [u8]) -> u32 {
+    let mut gateway = start;
+    let mut count: u32 = 0;
+    let mut left = n;
+    let mut more = again;
+    while left > 0 {
+        let t = gateway.tick(room);
+        let said = t.told;
+        count = told(count, said);
+        gateway = t.gateway;
+        if more > 1 {
+            more -= 1;
+        } else {
+            more = again;
+            gateway = start;
+        }
+        left -= 1;
+    }
+    count
+}
+
+fn frames(start: Gateway, block: &[u8], n: u32, room: &mut [u8]) -> u32 {
+    let line = byte_at(block, 17);
+    let word = word_at(block, 18);
+    let mut gateway = start;
+    let mut count: u32 = 0;
+    let mut left = n;
+    while left > 0 {
+        let m = gateway.boiler(line, Frame { word: word }, room);
+        let said = m.told;
+        count = told(count, said);
+        gateway = m.gateway;
+        left -= 1;
+    }
+    count
+}
+
+fn held(start: Gateway, block: &[u8], n: u32) -> u32 {
+    let line = byte_at(block, 17);
+    let word = word_at(block, 18);
+    let mut gateway = start;
+    let mut count: u32 = 0;
+    let mut left = n;
+    while left > 0 {
+        let m = gateway.thermostat(line, Frame { word: word });
+        let said = m.told;
+        count = told(count, said);
+        gateway = m.gateway;
+        left -= 1;
+    }
+    count
+}
+
+fn messages(start: Gateway, again: u8, message: &[u8], n: u32, room: &mut [u8]) -> u32 {
+    let mut gateway = start;
+    let mut count: u32 = 0;
+    let mut left = n;
+    let mut more = again;
+    while left > 0 {
+        let m = gateway.message(message, room);
+        let said = m.told;
+        count = told(count, said);
+        gateway = m.gateway;
+        if more > 1 {
+            more -= 1;
+        } else {
+            more = again;
+            gateway = start;
+        }
+        left -= 1;
+    }
+    count
+}
+
+fn ticked(before: Gateway, n: u32, room: &mut [u8]) -> Gateway {
+    let mut gateway = before;
     let mut left = n;
     while left > 0 {
         let t = gateway.tick(room);
         gateway = t.gateway;
-        last = t.told;
         left -= 1;
     }
-    Moved {
-        gateway: gateway,
-        told: last,
+    gateway
+}
+
+// The event of set-up at that place.
+fn happened(before: Gateway, block: &[u8], at: u8, message: &[u8], room: &mut [u8]) -> Gateway {
+    let kind = byte_at(block, at as usize);
+    let line = byte_at(block, at as usize + 1);
+    let word = word_at(block, at as usize + 4);
+    match kind {
+        b't' => ticked(before, word, room),
+        b'h' => before.thermostat(line, Frame { word: word }).gateway,
+        b'b' => before.boiler(line, Frame { word: word }, room).gateway,
+        b'm' => before.message(message, room).gateway,
+        _ => before,
     }
 }
 
-fn ticks(n: u32) -> u32 {
-    let mut room = [0u8; 16];
-    let moved = ticked(Gateway::fresh(), n, &mut room);
-    let last = moved.told;
-    told(0, last)
-}
-
-fn frames(n: u32) -> u32 {
-    let mut room = [0u8; 16];
-    let asked = Gateway::fresh()
-        .thermostat(1, Frame { word: 0x8019_0000 })
-        .gateway;
-    let moved = ticked(asked, 200, &mut room);
-    let mut gateway = moved.gateway;
-    let mut count: u32 = 0;
-    let mut left = n;
-    while left > 0 {
-        let m = gateway.boiler(1, Frame { word: 0x401a_3280 }, &mut room);
-        let t = m.told;
-        gateway = m.gateway;
-        count = told(count, t);
-        left -= 1;
-    }
-    count
-}
-
-fn messages(n: u32) -> u32 {
-    let mut room = [0u8; 16];
-    let question = QUESTION;
+fn set_up(block: &[u8], message: &[u8], room: &mut [u8]) -> Gateway {
     let mut gateway = Gateway::fresh();
-    let mut count: u32 = 0;
-    let mut left = n;
-    while left > 0 {
-        let m = gateway.message(&question, &mut room);
-        let t = m.told;
-        gateway = m.gateway;
-        count = told(count, t);
-        left -= 1;
+    let mut at: u8 = 64;
+    while at < 128 {
+        gateway = happened(gateway, block, at, message, room);
+        at += 8;
     }
-    count
+    gateway
 }
 
 // The decimal number behind the letter.
-fn number(line: &[u8]) -> u32 {
+fn number(block: &[u8]) -> u32 {
     let mut n: u32 = 0;
     let mut i: usize = 1;
-    while i < line.len() {
-        let byte = line[i];
+    while i < 16 {
+        let byte = byte_at(block, i);
         if b'0' <= byte {
             n = n % 100_000_000 * 10 + (byte % 16) as u32;
         }
@@ -123,19 +183,32 @@ fn number(line: &[u8]) -> u32 {
     n
 }
 
-fn done(kind: u8, n: u32) -> u32 {
-    match kind {
-        b's' => samples_of(n),
-        b't' => ticks(n),
-        b'b' => frames(n),
-        b'm' => messages(n),
+fn repeated(block: &[u8], message: &[u8], n: u32) -> u32 {
+    let mut room = [0u8; 16];
+    let start = set_up(block, message, &mut room);
+    let again = byte_at(block, 16);
+    match byte_at(block, 0) {
+        b's' => samples(word_at(block, 18), n),
+        b't' => ticks(start, again, n, &mut room),
+        b'h' => held(start, block, n),
+        b'b' => frames(start, block, n, &mut room),
+        b'm' => messages(start, again, message, n, &mut room),
         _ => 0,
     }
 }
 
+fn done(block: &[u8]) -> u32 {
+    if block.len() < 128 {
+        return 0;
+    }
+    let n = number(block);
+    let length = (byte_at(block, 22) % 33) as usize;
+    repeated(block, &block[32..32 + length], n)
+}
+
 fn main() {
-    let mut line = [0u8; 16];
-    let got = io::read_full(STDIN_FILENO, &mut line);
-    let n = number(&line[..got]);
-    print(Text::empty().decimal(done(line[0], n) as u64).push(b'\n'));
+    let mut block = [0u8; 128];
+    io::read_full(STDIN_FILENO, &mut block);
+    let count = done(&block);
+    print(Text::empty().decimal(count as u64).push(b'\n'));
 }

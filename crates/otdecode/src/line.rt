@@ -3,10 +3,10 @@ use reader::Answer;
 use text::Text;
 ghost use mathlib.Core.Path.{_≡_};
 ghost use Rattle.text.specs.Text.{emptyText, puts};
-ghost use Rattle.otdecode.specs.Lines.{lineOf};
+ghost use Rattle.otdecode.specs.Lines.{shownOf};
 
 pub(crate) fn line(index: u64, answer: Answer) -> Text
-    ensures { λ r. ⌜ r ≡ puts emptyText (lineOf index answer) ⌝ }
+    ensures { λ r. ⌜ r ≡ puts emptyText (shownOf index answer) ⌝ }
 {
     match answer {
         Answer::Nothing => Text::empty(),

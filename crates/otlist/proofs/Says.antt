@@ -12,7 +12,7 @@ use Rattle.word.specs.Frame.{evenOf, typeOf, idOf, valueOf}
 use Rattle.text.specs.Text.{emptyText, puts, says, decimalOf}
 use Rattle.text.proofs.Puts.{decimal-short, hex-length, says-puts}
 use Rattle.ids.specs.Ids.{kindOf}
-use Rattle.otlist.specs.Listing.{nameOf, signedOf, numbersOf, fieldsOf, lineOf}
+use Rattle.otlist.specs.Listing.{nameOf, signedOf, listedNumbers, listedFields, listedOf}
 
 -- both cases of a choice are short
 either : (b : Bool) (x y : List ℕ) (n : ℕ) → length x ≤ n → length y ≤ n → length (cond b x y) ≤ n
@@ -38,8 +38,8 @@ signed-short half n h lt =
     go true e p = omega arith
     go false e p = let above = ltb-false n half e in let q = decimal-short 4 (half + half - n) (omega arith) in omega arith
 
-numbers-short : (k v : ℕ) → v < 65536 → length (numbersOf k v) ≤ 13
-unfolding numbersOf
+numbers-short : (k v : ℕ) → v < 65536 → length (listedNumbers k v) ≤ 13
+unfolding listedNumbers
 numbers-short k v h =
     let whole = signed-short 0x8000 v (omega arith) (omega arith) in
     let plain = decimal-short 4 v (omega arith) in
@@ -64,8 +64,8 @@ value-low : (w : ℕ) → valueOf w < 65536
 unfolding valueOf
 value-low w = omega arith
 
-fields-short : (w : ℕ) → w < 2 ^ 32 → length (fieldsOf w) ≤ 40
-unfolding fieldsOf
+fields-short : (w : ℕ) → w < 2 ^ 32 → length (listedFields w) ≤ 40
+unfolding listedFields
 fields-short w h =
     let t = decimal-short 4 (typeOf w) (type-low w) in
     let i = decimal-short 4 (idOf w) (id-low w) in
@@ -75,6 +75,6 @@ fields-short w h =
     simp length-append (omega arith)
 
 -- "prints a line each": the text of a word's line says just that line
-pub listed : (w : ℕ) → w < 2 ^ 32 → says (puts emptyText (lineOf w)) ≡ lineOf w
-unfolding lineOf
-listed w h = says-puts (lineOf w) (either (evenOf w) _ _ 120 (let f = fields-short w h in omega arith) (omega arith))
+pub listed : (w : ℕ) → w < 2 ^ 32 → says (puts emptyText (listedOf w)) ≡ listedOf w
+unfolding listedOf
+listed w h = says-puts (listedOf w) (either (evenOf w) _ _ 120 (let f = fields-short w h in omega arith) (omega arith))

@@ -1,2 +1,3 @@
 -- What a reader must believe of the listing.
 pub mod Listing
+pub mod Words

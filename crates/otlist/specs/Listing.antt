@@ -32,8 +32,8 @@ unfoldable pub signedOf : ℕ → ℕ → List ℕ
 signedOf half n = cond (ltb n half) (decimalOf n) (minus ∷ decimalOf (half + half - n))
 
 -- "the number (two for a pair; a real as its signed raw number; raw as unsigned)"
-unfoldable pub numbersOf : ℕ → ℕ → List ℕ
-numbersOf k v =
+unfoldable pub listedNumbers : ℕ → ℕ → List ℕ
+listedNumbers k v =
     cond (eqb k real) (signedOf 0x8000 v)
     (cond (eqb k s16) (signedOf 0x8000 v)
     (cond (eqb k pair) (decimalOf (v / 256) ++ (space ∷ decimalOf (v % 256)))
@@ -41,11 +41,11 @@ numbersOf k v =
     (decimalOf v))))
 
 -- "type, id in decimal, value in four hex digits, kind, and the number"
-unfoldable pub fieldsOf : ℕ → List ℕ
-fieldsOf w =
+unfoldable pub listedFields : ℕ → List ℕ
+listedFields w =
     decimalOf (typeOf w) ++ (space ∷ (decimalOf (idOf w) ++ (space ∷ (hexOf 4 (valueOf w)
-    ++ (space ∷ (nameOf (kindOf (idOf w)) ++ (space ∷ (numbersOf (kindOf (idOf w)) (valueOf w) ++ (newline ∷ [])))))))))
+    ++ (space ∷ (nameOf (kindOf (idOf w)) ++ (space ∷ (listedNumbers (kindOf (idOf w)) (valueOf w) ++ (newline ∷ [])))))))))
 
 -- "Odd parity prints `- parity`"
-unfoldable pub lineOf : ℕ → List ℕ
-lineOf w = cond (evenOf w) (fieldsOf w) (minus ∷ space ∷ 112 ∷ 97 ∷ 114 ∷ 105 ∷ 116 ∷ 121 ∷ newline ∷ [])
+unfoldable pub listedOf : ℕ → List ℕ
+listedOf w = cond (evenOf w) (listedFields w) (minus ∷ space ∷ 112 ∷ 97 ∷ 114 ∷ 105 ∷ 116 ∷ 121 ∷ newline ∷ [])

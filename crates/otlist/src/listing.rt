@@ -3,7 +3,7 @@ use text::Text;
 ghost use mathlib.Core.Path.{_≡_};
 ghost use Prim.Native.Nat.{_<_, _≤_, _+_};
 ghost use Rattle.text.specs.Text.{emptyText, puts};
-ghost use Rattle.otlist.specs.Listing.{nameOf, signedOf, numbersOf, fieldsOf, lineOf};
+ghost use Rattle.otlist.specs.Listing.{nameOf, signedOf, listedNumbers, listedFields, listedOf};
 
 fn name(t: Text, kind: u8) -> Text
     ensures { λ r. ⌜ r ≡ puts t (nameOf kind) ⌝ }
@@ -31,7 +31,7 @@ fn signed(t: Text, half: u32, n: u32) -> Text
 }
 
 fn numbers(t: Text, kind: u8, v: u16) -> Text
-    ensures { λ r. ⌜ r ≡ puts t (numbersOf kind v) ⌝ }
+    ensures { λ r. ⌜ r ≡ puts t (listedNumbers kind v) ⌝ }
 {
     match kind {
         1 => signed(t, 0x8000, v as u32),
@@ -48,7 +48,7 @@ fn numbers(t: Text, kind: u8, v: u16) -> Text
 }
 
 fn fields(t: Text, w: u32) -> Text
-    ensures { λ r. ⌜ r ≡ puts t (fieldsOf w) ⌝ }
+    ensures { λ r. ⌜ r ≡ puts t (listedFields w) ⌝ }
 {
     let id = word::id_of(w);
     let value = word::value_of(w);
@@ -61,7 +61,7 @@ fn fields(t: Text, w: u32) -> Text
 }
 
 pub(crate) fn line(w: u32) -> Text
-    ensures { λ r. ⌜ r ≡ puts emptyText (lineOf w) ⌝ }
+    ensures { λ r. ⌜ r ≡ puts emptyText (listedOf w) ⌝ }
 {
     if word::even(w) {
         fields(Text::empty(), w)

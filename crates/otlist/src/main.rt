@@ -1,28 +1,49 @@
 // otlist: reads 4-byte words from standard input, high byte first, and prints a line each.
 mod listing;
+mod words;
 
 use libc::STDIN_FILENO;
 use libc::STDOUT_FILENO;
+use words::Part;
+use words::take;
 
-// Reads one word, prints its line, and answers whether there may be another.
-fn next() -> bool {
-    let mut bytes = [0u8; 4];
-    let got = io::read_full(STDIN_FILENO, &mut bytes);
-    if got == 0 {
-        return false;
+// One read, and the lines of the words that are whole then, written before the next read.
+fn list_some(part: Part) -> Part {
+    let mut block = io::buffer();
+    let mut page = io::buffer();
+    let got = libc::read(STDIN_FILENO, &mut block);
+    let n = io::count(got, &block);
+    let after = take(&block[..n], part, &mut page);
+    print::flush(&page, after.used);
+    Part {
+        word: after.word,
+        count: after.count,
+        used: 0,
+        more: n != 0,
     }
-    if got < 4 {
+}
+
+fn end(count: u8) {
+    if count != 0 {
         io::write_all(STDOUT_FILENO, b"- short\n");
-        return false;
     }
-    print::print(listing::line(places::word_at(&bytes, 0)));
-    true
 }
 
 // A proved loop has to end, and nothing says that the input does: the turns count down from a number that no run uses up.
 fn main() {
+    let mut part = Part {
+        word: 0,
+        count: 0,
+        used: 0,
+        more: true,
+    };
     let mut turns = u64::MAX;
-    while turns > 0 && next() {
+    while turns > 0 {
+        part = list_some(part);
+        if !part.more {
+            end(part.count);
+            return;
+        }
         turns -= 1;
     }
 }

@@ -1,23 +1,23 @@
 // The box on the desk: what an event of the script does to it, and the trace of that. Functions that have the box in hand go
 // straight on, wherever they can: what they depend on is found out by small functions that haven't.
+use crate::paper::happened;
+use crate::paper::ticked;
 use gateway::Asked;
 use gateway::Gateway;
 use gateway::Moved;
-use gateway::Out;
-use gateway::Outs;
 use gateway::Told;
-use print::print;
 use script::Event;
-use text::Text;
 use word::Frame;
 ghost use Prim.Native.Nat.{_≤_};
 
-// The box, its time in ticks, the size of the rooms that are lent to it, and how much is held of the script's line under way.
+// The box, its time in ticks, the size of the rooms that are lent to it, how much is held of the script's line under way, and how much of
+// the page is used on which its trace is collected.
 pub(crate) struct Desk {
     pub gateway: Gateway,
     pub time: u64,
     pub lent: usize,
     pub used: usize,
+    pub paper: usize,
 }
 
 pub(crate) fn fresh() -> Desk {
@@ -26,6 +26,7 @@ pub(crate) fn fresh() -> Desk {
         time: 0,
         lent: 256,
         used: 0,
+        paper: 0,
     }
 }
 
@@ -44,33 +45,14 @@ fn passed(time: u64, told: Told) -> u64 {
     }
 }
 
-fn sent(time: u64, line: u8, out: Out) {
-    if let Out::Sent(_, frame) = out {
-        print(trace::sent(time, line, frame));
-    }
-}
-
-// What goes out in a tick, by line 1 to 4, and what is told; gives the time after it.
-fn ticked(before: u64, o: Outs, told: Told, room: &[u8]) -> u64 {
-    let time = passed(before, told);
-    let one = o.one;
-    let two = o.two;
-    let three = o.three;
-    let four = o.four;
-    sent(time, 1, one);
-    sent(time, 2, two);
-    sent(time, 3, three);
-    sent(time, 4, four);
-    print(trace::told(time, 0, told, room));
-    time
-}
-
-fn tick(mut d: Desk, room: &mut [u8]) -> Desk {
+fn tick(mut d: Desk, room: &mut [u8], page: &mut [u8]) -> Desk {
     let t = d.gateway.tick(room);
     let told = t.told;
     let outs = t.outs;
     let next = t.gateway;
-    d.time = ticked(d.time, outs, told, room);
+    let time = passed(d.time, told);
+    d.paper = ticked(page, d.paper, time, outs, told, room);
+    d.time = time;
     d.gateway = next;
     d
 }
@@ -90,14 +72,14 @@ fn pass(mut d: Desk, n: u32) -> Desk {
     d
 }
 
-fn ticks(d: Desk, n: u32, room: &mut [u8]) -> Desk {
+fn ticks(d: Desk, n: u32, room: &mut [u8], page: &mut [u8]) -> Desk {
     let mut desk = d;
     let mut left = n;
     while left > 0 {
         if at_rest(desk) {
             return pass(desk, left);
         }
-        desk = tick(desk, room);
+        desk = tick(desk, room, page);
         left -= 1;
     }
     desk
@@ -152,32 +134,21 @@ fn lent_after(e: Event, lent: usize) -> usize {
     }
 }
 
-fn wrong(e: Event) {
-    if let Event::Wrong = e {
-        print(Text::empty().put(b"- line\n"));
-    }
-}
-
-fn show(time: u64, e: Event, asked: Asked, told: Told, room: &[u8]) {
-    wrong(e);
-    print(trace::told(time, line_of(e, asked), told, room));
-}
-
 // An event that is no ticks.
-fn play(mut d: Desk, e: Event, bytes: &[u8], room: &mut [u8]) -> Desk {
+fn play(mut d: Desk, e: Event, bytes: &[u8], room: &mut [u8], page: &mut [u8]) -> Desk {
     let m = moved(d.gateway, e, bytes, room);
     let told = m.told;
     let next = m.gateway;
     let asked = next.asked;
-    show(d.time, e, asked, told, room);
+    d.paper = happened(page, d.paper, d.time, line_of(e, asked), e, told, room);
     d.gateway = next;
     d.lent = lent_after(e, d.lent);
     d
 }
 
 // An event, with as much of the room lent as the desk says.
-pub(crate) fn happens(d: Desk, e: Event, bytes: &[u8], room: &mut [u8]) -> Desk {
+pub(crate) fn happens(d: Desk, e: Event, bytes: &[u8], room: &mut [u8], page: &mut [u8]) -> Desk {
     let n = at_most(d.lent, room.len());
-    let after = ticks(d, ticks_in(e), &mut room[..n]);
-    play(after, e, bytes, &mut room[..n])
+    let after = ticks(d, ticks_in(e), &mut room[..n], page);
+    play(after, e, bytes, &mut room[..n], page)
 }

@@ -1,5 +1,6 @@
 // otreplay: a script of events on standard input, a trace on standard output.
 mod desk;
+mod paper;
 
 use desk::Desk;
 use libc::STDIN_FILENO;
@@ -56,24 +57,47 @@ fn kept(used: usize, ended: bool) -> usize {
 }
 
 // What is held of a line is played, if the line has ended.
-fn held_line(mut d: Desk, used: usize, ended: bool, held: &[u8], room: &mut [u8]) -> Desk {
+fn held_line(
+    mut d: Desk,
+    used: usize,
+    ended: bool,
+    held: &[u8],
+    room: &mut [u8],
+    page: &mut [u8],
+) -> Desk {
     let mut bytes = [0u8; 300];
     let e = event(held, used, ended, &mut bytes);
     d.used = kept(used, ended);
-    desk::happens(d, e, &bytes, room)
+    desk::happens(d, e, &bytes, room, page)
 }
 
 // The lines that end in a block, and the part of one behind them.
-fn lines(first: Desk, block: &[u8], held: &mut [u8], room: &mut [u8]) -> Desk {
+fn lines(first: Desk, block: &[u8], held: &mut [u8], room: &mut [u8], page: &mut [u8]) -> Desk {
     let mut desk = first;
     let mut from = 0;
     while from < block.len() {
         let to = line_end(block, from);
         let used = append(held, desk.used, &block[from..to]);
-        desk = held_line(desk, used, to < block.len(), held, room);
+        desk = held_line(desk, used, to < block.len(), held, room, page);
         from = to + 1;
     }
     desk
+}
+
+// A block, and what is printed for it, written before the next is read.
+fn play(desk: Desk, block: &[u8], held: &mut [u8], room: &mut [u8]) -> Desk {
+    let mut page = io::buffer();
+    let mut after = lines(desk, block, held, room, &mut page);
+    print::flush(&page, after.paper);
+    after.paper = 0;
+    after
+}
+
+// A last line without an end counts as a line, if it has a byte.
+fn last(desk: Desk, held: &mut [u8], room: &mut [u8]) {
+    if 0 < desk.used {
+        play(desk, b"\n", held, room);
+    }
 }
 
 // The next bytes of the input, in front of a block; none at its end.
@@ -93,7 +117,6 @@ fn left(turns: u64, n: usize) -> u64
 }
 
 // A proved loop has to end, and nothing says that the input does: the turns count down from a number that no run uses up.
-// A last line without an end counts as a line, if it has a byte.
 fn main() {
     let mut held = [0u8; LONGEST];
     let mut room = [0u8; 300];
@@ -102,9 +125,8 @@ fn main() {
     let mut turns = u64::MAX;
     while turns > 0 {
         let n = read(&mut block);
-        desk = lines(desk, &block[..n], &mut held, &mut room);
+        desk = play(desk, &block[..n], &mut held, &mut room);
         turns = left(turns, n);
     }
-    let used = desk.used;
-    held_line(desk, used, 0 < used, &held, &mut room);
+    last(desk, &mut held, &mut room);
 }

@@ -1,14 +1,9 @@
 -- Nothing is left open by a contract of this crate: two results that it allows are equal.
 -- Assumes nothing.
-use mathlib.Core.Path.{_≡_, sym, _∙_}
-use Prim.Native.Nat.{ℕ}
-use Rattle.word.specs.declared.Built.the-variants.{Word}
+use mathlib.Core.Path.{sym, _∙_}
 use Rattle.word.proofs.One.{One}
 use Rattle.questions.proofs.word_of.Reads as word-of-reads
 use Rattle.questions.proofs.word_of.Kinds as word-of-kinds
 
-same-word : (v w : ℕ) → Word v ≡ Word w → v ≡ w
-same-word v w e = cc
-
 pub word-of-one : One word-of-kinds.ps word-of-kinds.r word-of-reads.Post
-word-of-one κs a u v x y p q = same-word u v (p ∙ sym q)
+word-of-one κs a u v x y p q = p ∙ sym q

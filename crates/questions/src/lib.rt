@@ -3,9 +3,7 @@ use modbus::Question;
 use modbus::QuestionType;
 use word::Built;
 ghost use mathlib.Core.Path.{_≡_};
-ghost use Rattle.word.specs.Frame.{builtOf};
-ghost use Rattle.word.specs.declared.Built as Built;
-ghost use Rattle.modbus.specs.Mapping.{typeNumber};
+ghost use Rattle.modbus.specs.Mapping.{typeNumber, wordOf};
 
 fn type_number(t: QuestionType) -> u8
     ensures { λ r. ⌜ r ≡ typeNumber t ⌝ }
@@ -19,7 +17,7 @@ fn type_number(t: QuestionType) -> u8
 
 // No type of a question is refused, so a word is always built.
 pub fn word_of(q: Question) -> u32
-    ensures { λ r. ⌜ Built.Word r ≡ builtOf (typeNumber (q .t)) (q .id) (q .value) ⌝ }
+    ensures { λ r. ⌜ r ≡ wordOf q ⌝ }
 {
     let t = q.t;
     match word::build(type_number(t), q.id, q.value) {

@@ -3,7 +3,7 @@ use modbus::Form;
 use modbus::Order;
 use modbus::Reply;
 ghost use mathlib.Core.Path.{_≡_};
-ghost use Rattle.modbus.specs.Outcomes.{exceptionOf, codeOf, plainOf, ofInvalid, answeredOf};
+ghost use Rattle.modbus.specs.Outcomes.{exceptionOf, codeOf, ordinaryOf, ofInvalid, normalOf};
 
 pub(crate) fn exception(o: Order, code: u8) -> Reply
     ensures { λ r. ⌜ r ≡ exceptionOf o code ⌝ }
@@ -21,8 +21,8 @@ fn refused(o: Order, t: u8) -> Reply
     exception(o, 0x04)
 }
 
-fn plain(o: Order, t: u8, normal: Reply) -> Reply
-    ensures { λ r. ⌜ r ≡ plainOf o t normal ⌝ }
+fn ordinary(o: Order, t: u8, reply: Reply) -> Reply
+    ensures { λ r. ⌜ r ≡ ordinaryOf o t reply ⌝ }
 {
     if t == 6 {
         return refused(o, t);
@@ -30,26 +30,26 @@ fn plain(o: Order, t: u8, normal: Reply) -> Reply
     if t == 7 {
         return refused(o, t);
     }
-    normal
+    reply
 }
 
-fn of_invalid(o: Order, t: u8, normal: Reply) -> Reply
-    ensures { λ r. ⌜ r ≡ ofInvalid o t normal ⌝ }
+fn of_invalid(o: Order, t: u8, reply: Reply) -> Reply
+    ensures { λ r. ⌜ r ≡ ofInvalid o t reply ⌝ }
 {
     if t == 7 {
         return refused(o, t);
     }
-    normal
+    reply
 }
 
-pub(crate) fn answered(form: Form, o: Order, t: u8, value: u16) -> Reply
-    ensures { λ r. ⌜ r ≡ answeredOf form o t value ⌝ }
+pub(crate) fn normal(form: Form, o: Order, t: u8, value: u16) -> Reply
+    ensures { λ r. ⌜ r ≡ normalOf form o t value ⌝ }
 {
     match form {
-        Form::Value => plain(o, t, Reply::Value(o.line, o.function, value)),
-        Form::OffsetValue => plain(o, t, Reply::Offset(o.line, o.function, o.offset, value)),
-        Form::OffsetOne => plain(o, t, Reply::Offset(o.line, o.function, o.offset, 0x0001)),
-        Form::Zero => plain(o, t, Reply::Zero(o.line, o.function)),
+        Form::Value => ordinary(o, t, Reply::Value(o.line, o.function, value)),
+        Form::OffsetValue => ordinary(o, t, Reply::Offset(o.line, o.function, o.offset, value)),
+        Form::OffsetOne => ordinary(o, t, Reply::Offset(o.line, o.function, o.offset, 0x0001)),
+        Form::Zero => ordinary(o, t, Reply::Zero(o.line, o.function)),
         Form::Never => refused(o, t),
         Form::ValueOfInvalid => of_invalid(o, t, Reply::Value(o.line, o.function, value)),
         Form::Whole => Reply::Whole(o.line, o.offset, value, t),

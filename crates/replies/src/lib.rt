@@ -2,9 +2,8 @@
 mod answers;
 mod body;
 
-use crate::answers::answered;
 use crate::answers::exception;
-use crate::body::body_of;
+use crate::answers::normal;
 use crate::body::high;
 use crate::body::low;
 use crate::body::put;
@@ -14,7 +13,7 @@ use modbus::Reply;
 use modbus::Written;
 ghost use mathlib.Core.Path.{_≡_};
 ghost use Rattle.modbus.specs.Outcomes.{answerOf, busyOf};
-ghost use Rattle.modbus.specs.Wire.{writtenOf, roomOf};
+ghost use Rattle.modbus.specs.Wire.{replyWritten, replyRoom};
 
 // The reply where an order already waits.
 pub fn busy(o: Order) -> Reply
@@ -30,7 +29,7 @@ pub fn answer(o: Order, w: Outcome) -> Reply
     match w {
         Outcome::Answer(t, value) => {
             let form = o.form;
-            answered(form, o, t, value)
+            normal(form, o, t, value)
         }
         Outcome::NoAnswer => exception(o, 0x0b),
     }
@@ -38,18 +37,15 @@ pub fn answer(o: Order, w: Outcome) -> Reply
 
 // A reply, with its checksum, in front of a room.
 pub fn write(r: Reply, room: &mut [u8]) -> Written
-    ensures { λ w. ⌜ (w ≡ writtenOf r (now (room .entry))) × (now (room .exit) ≡ roomOf r (now (room .entry))) ⌝ }
+    ensures { λ w. ⌜ (w ≡ replyWritten r (now (room .entry))) × (now (room .exit) ≡ replyRoom r (now (room .entry))) ⌝ }
 {
     if room.len() < 16 {
         return Written::Refused(15);
     }
-    let body = body_of(r);
-    let bytes = body.bytes;
-    let n = body.count;
-    let c = crc::checksum(&bytes[..n]);
+    let n = put(r, room);
+    let c = crc::checksum(&room[..n]);
     let first = low(c);
     let second = high(c);
-    put(&bytes[..n], room);
     room[n] = first;
     room[n + 1] = second;
     Written::Count(n + 2)

@@ -1,4 +1,5 @@
 // Modbus messages: what becomes of one, silence, a reply at once or an order for a line.
+mod functions;
 mod map;
 mod rows;
 mod shape;

@@ -1,10 +1,9 @@
 // From the body of a message, in any wrapping, to its answer: 01's checks in 01's order.
+use crate::functions::served;
 use crate::rows::find;
+use crate::rows::offset;
 use crate::shape::formed;
-use crate::shape::offset;
 use crate::shape::says;
-use crate::shape::served;
-use modbus::Form;
 use modbus::Order;
 use modbus::Question;
 use modbus::QuestionType;
@@ -12,41 +11,42 @@ use modbus::Reading;
 use modbus::Reply;
 use modbus::rows::Asks;
 use modbus::rows::Found;
+use modbus::rows::Naming;
 use modbus::rows::Row;
-use modbus::rows::Typed;
 use modbus::shape::Fields;
 use places::byte_at;
 ghost use mathlib.Core.Path.{_≡_};
-ghost use Rattle.modbus.specs.Mapping.{byMessage, typeFrom, unlikeOf, atOnce, orderOf, askOf, ownOf, mappedOf, readOf};
+ghost use Rattle.modbus.specs.Mapping.{byMessage, typeFrom, unlikeOf, atOnce, asOrder, askOf, ownOf, mappedOf, bodyRead};
 
-fn by_message(m: u16) -> Typed
+fn by_message(m: u16) -> Naming
     ensures { λ r. ⌜ r ≡ byMessage m ⌝ }
 {
     if m == 0x0000 {
-        return Typed::Known(QuestionType::ReadData);
+        return Naming::Known(QuestionType::ReadData);
     }
     if m == 0x0010 {
-        return Typed::Known(QuestionType::WriteData);
+        return Naming::Known(QuestionType::WriteData);
     }
     if m == 0x0020 {
-        return Typed::Known(QuestionType::InvalidData);
+        return Naming::Known(QuestionType::InvalidData);
     }
-    Typed::Unnamed
+    Naming::Unnamed
 }
 
-fn type_from(asks: Asks, m: u16) -> Typed
+fn type_from(asks: Asks, m: u16) -> Naming
     ensures { λ r. ⌜ r ≡ typeFrom asks m ⌝ }
 {
     match asks {
-        Asks::Always(t) => Typed::Known(t),
+        Asks::Always(t) => Naming::Known(t),
         Asks::ByMessage => by_message(m),
     }
 }
 
-fn order(unit: u8, a: Fields, t: QuestionType, form: Form) -> Order
-    ensures { λ r. ⌜ r ≡ orderOf unit a t form ⌝ }
+fn order(unit: u8, a: Fields, r: Row, t: QuestionType) -> Order
+    ensures { λ o. ⌜ o ≡ asOrder unit a r t ⌝ }
 {
-    let at = offset(a);
+    let at = offset(r, a);
+    let form = r.5;
     let question = Question {
         t,
         id: (at % 256) as u8,
@@ -65,10 +65,9 @@ fn ask(unit: u8, a: Fields, r: Row) -> Reading
     ensures { λ q. ⌜ q ≡ askOf unit a r ⌝ }
 {
     let asks = r.4;
-    let form = r.5;
     match type_from(asks, a.message) {
-        Typed::Known(t) => Reading::Accepted(order(unit, a, t, form)),
-        Typed::Unnamed => at_once(unit, a.function, 0x03),
+        Naming::Known(t) => Reading::Accepted(order(unit, a, r, t)),
+        Naming::Unnamed => at_once(unit, a.function, 0x03),
     }
 }
 
@@ -82,10 +81,10 @@ fn at_once(unit: u8, function: u8, code: u8) -> Reading
 fn unlike(a: Fields) -> bool
     ensures { λ r. ⌜ r ≡ unlikeOf a ⌝ }
 {
-    if a.reads != 1 {
+    if a.reads == 0 {
         return false;
     }
-    if a.writes != 1 {
+    if a.writes == 0 {
         return false;
     }
     a.from != a.to
@@ -117,7 +116,7 @@ fn own(a: Fields) -> Reading
 }
 
 pub(crate) fn read(b: &[u8]) -> Reading
-    ensures { λ q. ⌜ q ≡ readOf (now (b .entry)) ⌝ }
+    ensures { λ q. ⌜ q ≡ bodyRead (now (b .entry)) ⌝ }
 {
     let unit = byte_at(b, 0);
     let function = byte_at(b, 1);

@@ -1,5 +1,4 @@
 // The rows of the mapping, in 01's order, and the look-up.
-use crate::shape::offset;
 use modbus::Form::Never;
 use modbus::Form::OffsetOne;
 use modbus::Form::OffsetValue;
@@ -19,7 +18,7 @@ use modbus::rows::Page::At;
 use modbus::rows::Row;
 use modbus::shape::Fields;
 ghost use mathlib.Core.Path.{_≡_};
-ghost use Rattle.modbus.specs.Mapping.{rows, fitsOf, onOf, firstOf};
+ghost use Rattle.modbus.specs.Mapping.{mappingRows, offsetBy, fitsOf, onOf, firstOf};
 
 const ROWS: [Row; 11] = [
     Row(0x03, 1, 0, Any, Always(ReadData), Value),
@@ -34,6 +33,13 @@ const ROWS: [Row; 11] = [
     Row(0x17, 1, 1, At(0x02), Always(InvalidData), ValueOfInvalid),
     Row(0x41, 0, 1, At(0x00), ByMessage, Whole),
 ];
+
+// The offset that a row looks at: one that reads has the read's, one that only writes the write's.
+pub(crate) fn offset(r: Row, a: Fields) -> u16
+    ensures { λ n. ⌜ n ≡ offsetBy r a ⌝ }
+{
+    if r.1 == 0 { a.to } else { a.from }
+}
 
 fn on(p: Page, high: u16) -> bool
     ensures { λ r. ⌜ r ≡ onOf p high ⌝ }
@@ -50,23 +56,25 @@ fn fits(r: Row, a: Fields) -> bool
     if r.0 != a.function {
         return false;
     }
-    if r.1 != a.reads {
+    if (r.1 as u16) != a.reads {
         return false;
     }
-    if r.2 != a.writes {
+    if (r.2 as u16) != a.writes {
         return false;
     }
     let page = r.3;
-    on(page, offset(a) / 256)
+    on(page, offset(r, a) / 256)
 }
 
 // The first row that fits.
 pub(crate) fn find(a: Fields) -> Found
-    ensures { λ r. ⌜ r ≡ firstOf rows a ⌝ }
+    ensures { λ r. ⌜ r ≡ firstOf mappingRows a ⌝ }
 {
+    // Taken once: a constant that is indexed in the loop would be copied for each row.
+    let rows = ROWS;
     let mut i: usize = 0;
     while i < 11 {
-        let r = ROWS[i];
+        let r = rows[i];
         if fits(r, a) {
             return Found::First(r);
         }

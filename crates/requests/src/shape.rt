@@ -1,34 +1,10 @@
-// The form of a request: which functions are served, the exact length, byte count and counts, and where each field stands.
+// The form of a request: the exact length, byte count and counts, and where each field stands.
 // A body is what stands between wrapping and checksum: unit, function, data.
 use modbus::shape::Fields;
 use places::byte_at;
 use places::pair_at;
 ghost use mathlib.Core.Path.{_≡_};
-ghost use Rattle.modbus.specs.Shape.{servedOf, readFormed, manyFormed, bothFormed, formedOf, bothFields, writeFields, fieldsOf, offsetOf};
-
-pub(crate) fn served(unit: u8, function: u8) -> bool
-    ensures { λ r. ⌜ r ≡ servedOf unit function ⌝ }
-{
-    if function == 0x03 {
-        return true;
-    }
-    if function == 0x04 {
-        return true;
-    }
-    if function == 0x06 {
-        return true;
-    }
-    if function == 0x10 {
-        return true;
-    }
-    if unit == 5 {
-        return false;
-    }
-    if function == 0x17 {
-        return true;
-    }
-    function == 0x41
-}
+ghost use Rattle.modbus.specs.Shape.{readFormed, manyFormed, bothFormed, formedOf, bothFields, writeFields, requestFields};
 
 fn read_formed(b: &[u8]) -> bool
     ensures { λ r. ⌜ r ≡ readFormed (now (b .entry)) ⌝ }
@@ -120,7 +96,7 @@ fn write_fields(function: u8, to: u16, value: u16, message: u16) -> Fields
 }
 
 pub(crate) fn says(function: u8, b: &[u8]) -> Fields
-    ensures { λ r. ⌜ r ≡ fieldsOf function (now (b .entry)) ⌝ }
+    ensures { λ r. ⌜ r ≡ requestFields function (now (b .entry)) ⌝ }
 {
     let first = pair_at(b, 2);
     let second = pair_at(b, 4);
@@ -145,11 +121,4 @@ pub(crate) fn says(function: u8, b: &[u8]) -> Fields
         value: 0,
         message: 0,
     }
-}
-
-// The offset that is looked at: with a read its own, with a write alone that of the write.
-pub(crate) fn offset(a: Fields) -> u16
-    ensures { λ r. ⌜ r ≡ offsetOf a ⌝ }
-{
-    if a.reads == 1 { a.from } else { a.to }
 }

@@ -7,9 +7,9 @@ use Rattle.turns.specs.Line.{Line}
 use Rattle.turns.specs.declared.Talker.the-variants.{Thermostat}
 use Rattle.turns.specs.declared.Turn.the-variants.{Rest}
 use Rattle.turns.specs.declared.Slot.the-variants.{Empty}
-use Rattle.turns.specs.declared.Order.the-variants.{Nothing}
+use Rattle.turns.specs.declared.Queue.the-variants.{Nothing}
 use Rattle.line.specs.declared.Line as code
-use Rattle.line.specs.Reads.{lineOf}
+use Rattle.line.specs.Reads.{asLine}
 
 -- what the logic takes for an element past the end; an array of four has none such
 abbrev pub none : code.Line
@@ -17,4 +17,4 @@ none = record { turn = Rest 0; held = Empty; order = Nothing; last = Thermostat 
 
 -- the line at index j
 abbrev pub at : List code.Line → ℕ → Line
-at l j = lineOf (getD l j none)
+at l j = asLine (getD l j none)

@@ -1,16 +1,16 @@
 // Whether a line, or each of the four, has nothing to do. The box passes over such lines in a tick, and a caller may pass over the ticks of a
 // box that has four of them: nothing changes in them but the time.
 use line::Line;
-use line::Order;
+use line::Queue;
 use line::Slot;
 use line::Turn;
 ghost use mathlib.Core.Path.{_≡_};
-ghost use Rattle.line.specs.Reads.{lineOf};
+ghost use Rattle.line.specs.Reads.{asLine};
 ghost use Rattle.turns.specs.Idle.{idleOf, allIdle};
 ghost use Rattle.rests.specs.Reads.{at};
 
 pub fn idle(line: Line) -> bool
-    ensures { λ r. ⌜ r ≡ idleOf (lineOf line) ⌝ }
+    ensures { λ r. ⌜ r ≡ idleOf (asLine line) ⌝ }
 {
     let turn = line.turn;
     let held = line.held;
@@ -24,7 +24,7 @@ pub fn idle(line: Line) -> bool
     if let Slot::Full(_, _) = held {
         return false;
     }
-    if let Order::Waits(_, _) = order {
+    if let Queue::Waits(_, _) = order {
         return false;
     }
     true

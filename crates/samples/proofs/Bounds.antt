@@ -11,7 +11,7 @@ use Rattle.samples.specs.Reader.{Reader}
 use Rattle.samples.specs.Answers.{early, late, frame}
 use Rattle.samples.specs.Reading.{freshOf, gives, stepOf}
 use Rattle.samples.specs.Run.{none, Last}
-use Rattle.samples.specs.Edges.{levelOf, Stretch, plain, Allowed, AllAllowed, turned, levelAfter, lineOf, wordOf}
+use Rattle.samples.specs.Edges.{levelOf, Stretch, plain, Allowed, AllAllowed, turned, levelAfter, levelsOf, wordIn}
 use Rattle.samples.proofs.Cases.{start-late, a-sample}
 use Rattle.samples.proofs.Runs.{Quiet, join, ending}
 use Rattle.samples.proofs.Stretches.{mid, at-gap, at-24, starting, hold, idle, first-half, quiet-line, line-last, shiftedBy, all-allowed}
@@ -38,35 +38,35 @@ module _ (n s : ℕ) (l : List Stretch) (gs : 8 ≤ s) (hs : s ≤ 14) (hl : All
   a = levelAfter false l
 
   -- d samples of the level that is there
-  stays : (d : ℕ) → d ≤ 23 → Quiet freshOf (lineOf n s l ++ replicate d (levelOf a)) (mid (1 + length l) (shiftedBy 0 false l) d a false)
+  stays : (d : ℕ) → d ≤ 23 → Quiet freshOf (levelsOf n s l ++ replicate d (levelOf a)) (mid (1 + length l) (shiftedBy 0 false l) d a false)
   stays d h =
       let z : 0 + d ≡ d = omega arith in
       join (quiet-line n s l gs hs hl len) (rw z at (hold (1 + length l) (shiftedBy 0 false l) false a d 0 (omega arith)))
 
   -- P11: "a middle edge at 17 is refusal 1"
-  pub middle-at-17 : Last (lineOf n s (l ++ (plain 17 ∷ []))) early
+  pub middle-at-17 : Last (levelsOf n s (l ++ (plain 17 ∷ []))) early
   middle-at-17 =
-      let e : (lineOf n s l ++ replicate 16 (levelOf a)) ++ (levelOf (not a) ∷ []) ≡ lineOf n s (l ++ (plain 17 ∷ [])) =
-      append-assoc (lineOf n s l) (replicate 16 (levelOf a)) (levelOf (not a) ∷ []) ∙ sym (line-last n s l (plain 17)) in
-      rw e at (ends (lineOf n s l ++ replicate 16 (levelOf a)) (levelOf (not a)) early (stays 16 (omega arith))
+      let e : (levelsOf n s l ++ replicate 16 (levelOf a)) ++ (levelOf (not a) ∷ []) ≡ levelsOf n s (l ++ (plain 17 ∷ [])) =
+      append-assoc (levelsOf n s l) (replicate 16 (levelOf a)) (levelOf (not a) ∷ []) ∙ sym (line-last n s l (plain 17)) in
+      rw e at (ends (levelsOf n s l ++ replicate 16 (levelOf a)) (levelOf (not a)) early (stays 16 (omega arith))
       (at-gap (1 + length l) (shiftedBy 0 false l) 16 a false (omega arith) (omega arith)))
 
   -- "No middle edge up to 23 is refusal 2, given at distance 24 for either level there"
-  pub middle-at-24 : (b : Bool) → Last (lineOf n s l ++ (replicate 23 (levelOf a) ++ (levelOf b ∷ []))) late
+  pub middle-at-24 : (b : Bool) → Last (levelsOf n s l ++ (replicate 23 (levelOf a) ++ (levelOf b ∷ []))) late
   middle-at-24 b =
-      let e : (lineOf n s l ++ replicate 23 (levelOf a)) ++ (levelOf b ∷ []) ≡ lineOf n s l ++ (replicate 23 (levelOf a) ++ (levelOf b ∷ [])) =
-      append-assoc (lineOf n s l) (replicate 23 (levelOf a)) (levelOf b ∷ []) in
-      rw e at (ends (lineOf n s l ++ replicate 23 (levelOf a)) (levelOf b) late (stays 23 (omega arith))
+      let e : (levelsOf n s l ++ replicate 23 (levelOf a)) ++ (levelOf b ∷ []) ≡ levelsOf n s l ++ (replicate 23 (levelOf a) ++ (levelOf b ∷ [])) =
+      append-assoc (levelsOf n s l) (replicate 23 (levelOf a)) (levelOf b ∷ []) in
+      rw e at (ends (levelsOf n s l ++ replicate 23 (levelOf a)) (levelOf b) late (stays 23 (omega arith))
       (at-24 (1 + length l) (shiftedBy 0 false l) 23 a false b (omega arith)))
 
 -- P11: "at 18 and 23 good": with such a stretch anywhere among the 32, the frame is read to its end
 module _ (n s : ℕ) (l r : List Stretch) (t : Stretch) (gs : 8 ≤ s) (hs : s ≤ 14) (hl : AllAllowed l) (hr : AllAllowed r) (ht : Allowed t) (d : ℕ)
     (len : length (l ++ (plain d ∷ r)) ≡ 32) (falls : turned (levelAfter false (l ++ (plain d ∷ r))) t ≡ false) where
-  good : Allowed (plain d) → Last (lineOf n s ((l ++ (plain d ∷ r)) ++ (t ∷ []))) (frame (wordOf (l ++ (plain d ∷ r))))
+  good : Allowed (plain d) → Last (levelsOf n s ((l ++ (plain d ∷ r)) ++ (t ∷ []))) (frame (wordIn (l ++ (plain d ∷ r))))
   good hd = tolerant n s (l ++ (plain d ∷ r)) t gs hs (all-allowed l (plain d ∷ r) hl (hd, hr)) ht len falls
 
-  pub middle-at-18 : d ≡ 18 → Last (lineOf n s ((l ++ (plain d ∷ r)) ++ (t ∷ []))) (frame (wordOf (l ++ (plain d ∷ r))))
+  pub middle-at-18 : d ≡ 18 → Last (levelsOf n s ((l ++ (plain d ∷ r)) ++ (t ∷ []))) (frame (wordIn (l ++ (plain d ∷ r))))
   middle-at-18 e = good (omega arith)
 
-  pub middle-at-23 : d ≡ 23 → Last (lineOf n s ((l ++ (plain d ∷ r)) ++ (t ∷ []))) (frame (wordOf (l ++ (plain d ∷ r))))
+  pub middle-at-23 : d ≡ 23 → Last (levelsOf n s ((l ++ (plain d ∷ r)) ++ (t ∷ []))) (frame (wordIn (l ++ (plain d ∷ r))))
   middle-at-23 e = good (omega arith)

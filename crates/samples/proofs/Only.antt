@@ -17,7 +17,7 @@ use Rattle.samples.specs.Reader.{Reader, Step}
 use Rattle.samples.specs.Answers.{frame}
 use Rattle.samples.specs.Reading.{freshOf, stepOf}
 use Rattle.samples.specs.Run.{answersOf, none, Last}
-use Rattle.samples.specs.Edges.{levelOf, Stretch, plain, crossed, AllAllowed, levelAfter, lineOf, wordOf, Heard}
+use Rattle.samples.specs.Edges.{levelOf, Stretch, plain, crossed, AllAllowed, levelAfter, levelsOf, wordIn, Heard}
 use Rattle.samples.proofs.Cases.{bad-sample}
 use Rattle.samples.proofs.Stretches.{not-not, md, mid, same-level, at-second, at-early, at-gap, at-24, at-other, legSamples, legEnd}
 use Rattle.samples.proofs.Told.{Open, Told, waits, starts, follows, Next, goes, refuses, snoc, behind, wait-next, start-next}
@@ -43,81 +43,81 @@ module _ (h b : List ℕ) (s : ℕ) (l : List Stretch) (hs : (8 ≤ s) × (s ≤
   abbrev Grows : Stretch → ℕ → Stretch → Type 0
   Grows t x u = legSamples c t ++ (x ∷ []) ≡ legSamples c u
 
-  further : (t : Stretch) (x : ℕ) (u : Stretch) → h ≡ b ++ (lineOf 0 s l ++ legSamples c t) → Grows t x u →
-      h ++ (x ∷ []) ≡ b ++ (lineOf 0 s l ++ legSamples c u)
+  further : (t : Stretch) (x : ℕ) (u : Stretch) → h ≡ b ++ (levelsOf 0 s l ++ legSamples c t) → Grows t x u →
+      h ++ (x ∷ []) ≡ b ++ (levelsOf 0 s l ++ legSamples c u)
   further t x u e f =
-      behind h b (lineOf 0 s l ++ legSamples c t) (lineOf 0 s l ++ legSamples c u) x e
-      (append-assoc (lineOf 0 s l) (legSamples c t) (x ∷ []) ∙ ap (λ (y : List ℕ). lineOf 0 s l ++ y) f)
+      behind h b (levelsOf 0 s l ++ legSamples c t) (levelsOf 0 s l ++ legSamples c u) x e
+      (append-assoc (levelsOf 0 s l) (legSamples c t) (x ∷ []) ∙ ap (λ (y : List ℕ). levelsOf 0 s l ++ y) f)
 
   -- no other edge so far
-  module _ (d : ℕ) (o : Open (plain d)) (e : h ≡ b ++ (lineOf 0 s l ++ legSamples c (plain d))) where
+  module _ (d : ℕ) (o : Open (plain d)) (e : h ≡ b ++ (levelsOf 0 s l ++ legSamples c (plain d))) where
     abbrev at : ℕ → Step
-    at x = stepOf (mid k (wordOf l) (d - 1) c false) x
+    at x = stepOf (mid k (wordIn l) (d - 1) c false) x
 
     plain-same : Dec (d < 24) → Next h (levelOf c) (at (levelOf c))
-    plain-same (no g) = refuses h (levelOf c) _ 2 (at-24 k (wordOf l) (d - 1) c false c (omega arith))
+    plain-same (no g) = refuses h (levelOf c) _ 2 (at-24 k (wordIn l) (d - 1) c false c (omega arith))
     plain-same (yes g) =
         let n : d - 1 + 1 ≡ d + 1 - 1 = omega arith in
-        goes h (levelOf c) _ (Bits (md k (wordOf l) (d - 1 + 1) c false)) (same-level k (wordOf l) (d - 1) c false (omega arith))
+        goes h (levelOf c) _ (Bits (md k (wordIn l) (d - 1 + 1) c false)) (same-level k (wordIn l) (d - 1) c false (omega arith))
         (follows b s l (plain (d + 1)) hs hl len (omega arith, omega arith)
         (further (plain d) (levelOf c) (plain (d + 1)) e (snoc (d - 1) (levelOf c) ∙ ap (λ (m : ℕ). replicate m (levelOf c)) n))
-        (ap (λ (m : ℕ). mid k (wordOf l) m c false) n))
+        (ap (λ (m : ℕ). mid k (wordIn l) m c false) n))
 
     plain-edge : Dec (d < 8) → Dec (d < 15) → Dec (d < 18) → Dec (d < 24) → Next h (levelOf (not c)) (at (levelOf (not c)))
-    plain-edge (yes g) q u v = refuses h (levelOf (not c)) _ 1 (at-early k (wordOf l) (d - 1) c false (omega arith))
+    plain-edge (yes g) q u v = refuses h (levelOf (not c)) _ 1 (at-early k (wordIn l) (d - 1) c false (omega arith))
     plain-edge (no g) (yes q) u v =
         let n : d - 1 + 1 ≡ d + 1 - 1 = omega arith in
         let one : 1 ≡ d + 1 - d = omega arith in
-        goes h (levelOf (not c)) _ (Bits (md k (wordOf l) (d - 1 + 1) (not c) true)) (at-other k (wordOf l) (d - 1) c (omega arith) (omega arith))
+        goes h (levelOf (not c)) _ (Bits (md k (wordIn l) (d - 1 + 1) (not c) true)) (at-other k (wordIn l) (d - 1) c (omega arith) (omega arith))
         (follows b s l (crossed d (d + 1)) hs hl len (omega arith, omega arith, omega arith, omega arith)
         (further (plain d) (levelOf (not c)) (crossed d (d + 1)) e
         (ap (λ (m : ℕ). replicate (d - 1) (levelOf c) ++ replicate m (levelOf (not c))) one))
-        (ap (λ (m : ℕ). mid k (wordOf l) m (not c) true) n))
-    plain-edge (no g) (no q) (yes u) v = refuses h (levelOf (not c)) _ 1 (at-gap k (wordOf l) (d - 1) c false (omega arith) (omega arith))
+        (ap (λ (m : ℕ). mid k (wordIn l) m (not c) true) n))
+    plain-edge (no g) (no q) (yes u) v = refuses h (levelOf (not c)) _ 1 (at-gap k (wordIn l) (d - 1) c false (omega arith) (omega arith))
     plain-edge (no g) (no q) (no u) (yes v) = edge-next h b s l (plain d) hs hl len e (omega arith, omega arith)
-    plain-edge (no g) (no q) (no u) (no v) = refuses h (levelOf (not c)) _ 2 (at-24 k (wordOf l) (d - 1) c false (not c) (omega arith))
+    plain-edge (no g) (no q) (no u) (no v) = refuses h (levelOf (not c)) _ 2 (at-24 k (wordIn l) (d - 1) c false (not c) (omega arith))
 
     plain-next : (x : ℕ) → Next h x (at x)
     plain-next x = go (level c x)
       where
         go : ((x ≡ levelOf c) ⊎ (x ≡ levelOf (not c))) ⊎ (2 ≤ x) → Next h x (at x)
-        go (inr g) = refuses h x _ 4 (bad-sample (mid k (wordOf l) (d - 1) c false) x g)
+        go (inr g) = refuses h x _ 4 (bad-sample (mid k (wordIn l) (d - 1) c false) x g)
         go (inl (inl f)) = subst (λ (q : ℕ). Next h q (at q)) (sym f) (plain-same (decLt d 24))
         go (inl (inr f)) = subst (λ (q : ℕ). Next h q (at q)) (sym f) (plain-edge (decLt d 8) (decLt d 15) (decLt d 18) (decLt d 24))
 
   -- after the other edge, at distance q
-  module _ (q d : ℕ) (o : Open (crossed q d)) (e : h ≡ b ++ (lineOf 0 s l ++ legSamples c (crossed q d))) where
+  module _ (q d : ℕ) (o : Open (crossed q d)) (e : h ≡ b ++ (levelsOf 0 s l ++ legSamples c (crossed q d))) where
     abbrev at' : ℕ → Step
-    at' x = stepOf (mid k (wordOf l) (d - 1) (not c) true) x
+    at' x = stepOf (mid k (wordIn l) (d - 1) (not c) true) x
 
     crossed-same : Dec (d < 24) → Next h (levelOf (not c)) (at' (levelOf (not c)))
-    crossed-same (no g) = refuses h (levelOf (not c)) _ 2 (at-24 k (wordOf l) (d - 1) (not c) true (not c) (omega arith))
+    crossed-same (no g) = refuses h (levelOf (not c)) _ 2 (at-24 k (wordIn l) (d - 1) (not c) true (not c) (omega arith))
     crossed-same (yes g) =
         let n : d - 1 + 1 ≡ d + 1 - 1 = omega arith in
         let m : d - q + 1 ≡ d + 1 - q = omega arith in
-        goes h (levelOf (not c)) _ (Bits (md k (wordOf l) (d - 1 + 1) (not c) true)) (same-level k (wordOf l) (d - 1) (not c) true (omega arith))
+        goes h (levelOf (not c)) _ (Bits (md k (wordIn l) (d - 1 + 1) (not c) true)) (same-level k (wordIn l) (d - 1) (not c) true (omega arith))
         (follows b s l (crossed q (d + 1)) hs hl len (omega arith, omega arith, omega arith, omega arith)
         (further (crossed q d) (levelOf (not c)) (crossed q (d + 1)) e
         (append-assoc (replicate (q - 1) (levelOf c)) (replicate (d - q) (levelOf (not c))) (levelOf (not c) ∷ [])
         ∙ ap (λ (y : List ℕ). replicate (q - 1) (levelOf c) ++ y) (snoc (d - q) (levelOf (not c)) ∙ ap (λ (j : ℕ). replicate j (levelOf (not c))) m)))
-        (ap (λ (j : ℕ). mid k (wordOf l) j (not c) true) n))
+        (ap (λ (j : ℕ). mid k (wordIn l) j (not c) true) n))
 
     crossed-edge : Dec (d < 18) → Dec (d < 24) → Next h (levelOf (not (not c))) (at' (levelOf (not (not c))))
-    crossed-edge (yes u) v = refuses h (levelOf (not (not c))) _ 1 (at-second k (wordOf l) (d - 1) (not c) true (omega arith) refl)
+    crossed-edge (yes u) v = refuses h (levelOf (not (not c))) _ 1 (at-second k (wordIn l) (d - 1) (not c) true (omega arith) refl)
     crossed-edge (no u) (yes v) =
         subst (λ (a : Bool). Next h (levelOf a) (at' (levelOf a))) (sym (not-not c))
         (edge-next h b s l (crossed q d) hs hl len e (omega arith, omega arith, omega arith, omega arith))
-    crossed-edge (no u) (no v) = refuses h (levelOf (not (not c))) _ 2 (at-24 k (wordOf l) (d - 1) (not c) true (not (not c)) (omega arith))
+    crossed-edge (no u) (no v) = refuses h (levelOf (not (not c))) _ 2 (at-24 k (wordIn l) (d - 1) (not c) true (not (not c)) (omega arith))
 
     crossed-next : (x : ℕ) → Next h x (at' x)
     crossed-next x = go (level (not c) x)
       where
         go : ((x ≡ levelOf (not c)) ⊎ (x ≡ levelOf (not (not c)))) ⊎ (2 ≤ x) → Next h x (at' x)
-        go (inr g) = refuses h x _ 4 (bad-sample (mid k (wordOf l) (d - 1) (not c) true) x g)
+        go (inr g) = refuses h x _ 4 (bad-sample (mid k (wordIn l) (d - 1) (not c) true) x g)
         go (inl (inl f)) = subst (λ (y : ℕ). Next h y (at' y)) (sym f) (crossed-same (decLt d 24))
         go (inl (inr f)) = subst (λ (y : ℕ). Next h y (at' y)) (sym f) (crossed-edge (decLt d 18) (decLt d 24))
 
-  follow-next : (t : Stretch) (x : ℕ) → Open t → h ≡ b ++ (lineOf 0 s l ++ legSamples c t) → Next h x (stepOf (legEnd k (wordOf l) c t) x)
+  follow-next : (t : Stretch) (x : ℕ) → Open t → h ≡ b ++ (levelsOf 0 s l ++ legSamples c t) → Next h x (stepOf (legEnd k (wordIn l) c t) x)
   follow-next (plain d) x o e = plain-next d o e x
   follow-next (crossed q d) x o e = crossed-next q d o e x
 

@@ -13,7 +13,7 @@ use Rattle.samples.specs.Answers.{frame}
 use Rattle.samples.specs.Reading.{freshOf, waitedOf, stepOf}
 use Rattle.samples.specs.Run.{answersOf, afterOf, none}
 use Rattle.samples.specs.Edges.{levelOf, Stretch, plain, crossed, Allowed, AllAllowed, turned, levelAfter, stretchSamples, stretchesSamples}
-use Rattle.samples.specs.Edges.{signalOf, lineOf, edgeBits, numberFrom}
+use Rattle.samples.specs.Edges.{signalOf, levelsOf, edgeBits, numberFrom}
 use Rattle.samples.specs.Written.{bitSamples, inSamples, bitsOf, samplesOf}
 use Rattle.samples.proofs.Lengths.{length-bits, length-samples}
 use Rattle.samples.proofs.Runs.{answers-append}
@@ -134,7 +134,7 @@ module _ (w : ℕ) (fits : w < 2 ^ 32) where
       (ap (levelAfter false) (stretches-to-last false bits) ∙ level-last false ways last ∙ falls level))
 
   abbrev line : List ℕ
-  line = lineOf 0 10 (ways ++ (last ∷ []))
+  line = levelsOf 0 10 (ways ++ (last ∷ []))
 
   length-line : length line ≡ 695
   length-line =

@@ -15,7 +15,7 @@ use Rattle.samples.specs.Answers.{early, late}
 use Rattle.samples.specs.Reading.{freshOf, gives, goesOn, bitOf, middleOf, nextOf, waitedOf, stepOf}
 use Rattle.samples.specs.Run.{answersOf, afterOf}
 use Rattle.samples.specs.Edges.{levelOf, Stretch, plain, crossed, Allowed, AllAllowed, turned, levelAfter, stretchSamples, stretchesSamples}
-use Rattle.samples.specs.Edges.{lineOf, edgeBits, numberFrom}
+use Rattle.samples.specs.Edges.{levelsOf, edgeBits, numberFrom}
 use Rattle.samples.proofs.Cases.{idle-enough, first-edge, start-on, start-middle, no-edge, other-edge, middle-edge, second-other, before-8}
 use Rattle.samples.proofs.Cases.{past-14, too-late, next-bit, bit-small, a-sample}
 use Rattle.samples.proofs.Runs.{Quiet, stay, join, one}
@@ -187,7 +187,7 @@ start-bit s g h =
 
 -- a line up to a middle edge before the 34th
 module _ (n s : ℕ) (l : List Stretch) (gs : 8 ≤ s) (hs : s ≤ 14) (hl : AllAllowed l) (len : length l ≤ 32) where
-  pub quiet-line : Quiet freshOf (lineOf n s l) (mid (1 + length l) (shiftedBy 0 false l) 0 (levelAfter false l) false)
+  pub quiet-line : Quiet freshOf (levelsOf n s l) (mid (1 + length l) (shiftedBy 0 false l) 0 (levelAfter false l) false)
   quiet-line =
       let q = join (idle n) (join (start-bit s gs hs) (stretches 1 0 false l hl (omega arith))) in
       rw (append-assoc (replicate s 1) (0 ∷ []) (stretchesSamples false l)) at q
@@ -208,7 +208,7 @@ stretches-last a (x ∷ l) t =
     ∙ sym (append-assoc (stretchSamples a x) (stretchesSamples (turned a x) l) (stretchSamples (levelAfter (turned a x) l) t))
 
 -- a line and one stretch more
-pub line-last : (n s : ℕ) (l : List Stretch) (t : Stretch) → lineOf n s (l ++ (t ∷ [])) ≡ lineOf n s l ++ stretchSamples (levelAfter false l) t
+pub line-last : (n s : ℕ) (l : List Stretch) (t : Stretch) → levelsOf n s (l ++ (t ∷ [])) ≡ levelsOf n s l ++ stretchSamples (levelAfter false l) t
 line-last n s l t =
     ap (λ (x : List ℕ). replicate (24 + n) 0 ++ (replicate s 1 ++ (0 ∷ x))) (stretches-last false l t)
     ∙ simp append-assoc

@@ -16,7 +16,7 @@ use Rattle.samples.specs.declared.Answer.the-variants.{Nothing, Frame, R
 use Rattle.samples.specs.Reader.{Reader, Step}
 use Rattle.samples.specs.Answers.{frame}
 use Rattle.samples.specs.Reading.{gives, goesOn, pastEdge, stepOf}
-use Rattle.samples.specs.Edges.{Stretch, plain, crossed, AllAllowed, levelAfter, lineOf, wordOf, Heard}
+use Rattle.samples.specs.Edges.{Stretch, plain, crossed, AllAllowed, levelAfter, levelsOf, wordIn, Heard}
 use Rattle.samples.proofs.Cases.{more-idle, idle-enough, too-soon, first-edge, start-late, start-on, start-early, start-middle, bad-sample, a-sample}
 use Rattle.samples.proofs.Stretches.{starting, legSamples, legEnd}
 
@@ -32,17 +32,17 @@ pub data Told (h : List ℕ) (r : Reader) : Type 0 where
   waits : (b : List ℕ) (n : ℕ) → n ≤ 24 → h ≡ b ++ replicate n 0 → r ≡ record { phase = Waiting n } → Told h r
   starts : (b : List ℕ) (d : ℕ) → h ≡ b ++ (replicate 24 0 ++ replicate (d + 1) 1) → r ≡ starting d → Told h r
   follows : (b : List ℕ) (s : ℕ) (l : List Stretch) (t : Stretch) → (8 ≤ s) × (s ≤ 14) → AllAllowed l → length l ≤ 32 → Open t
-      → h ≡ b ++ (lineOf 0 s l ++ legSamples (levelAfter false l) t) → r ≡ legEnd (1 + length l) (wordOf l) (levelAfter false l) t → Told h r
+      → h ≡ b ++ (levelsOf 0 s l ++ legSamples (levelAfter false l) t) → r ≡ legEnd (1 + length l) (wordIn l) (levelAfter false l) t → Told h r
 
 -- what the step of a sample x says of the samples h before it
 pub record Next (h : List ℕ) (x : ℕ) (y : Step) : Type 0 where
   pub on : y .answer ≡ Nothing → Told (h ++ (x ∷ [])) (y .reader)
   pub given : (w : ℕ) → y .answer ≡ frame w → Heard (h ++ (x ∷ [])) w
 
-abbrev wordIn : Answer → ℕ
-wordIn Nothing = 0
-wordIn (Frame f) = f .word
-wordIn (Refused n) = 0
+abbrev wordGiven : Answer → ℕ
+wordGiven Nothing = 0
+wordGiven (Frame f) = f .word
+wordGiven (Refused n) = 0
 
 module _ (h : List ℕ) (x : ℕ) (y : Step) where
   pub goes : (p : Phase) → y ≡ goesOn p → Told (h ++ (x ∷ [])) (record { phase = p }) → Next h x y
@@ -60,7 +60,7 @@ module _ (h : List ℕ) (x : ℕ) (y : Step) where
   pub ends : (v : ℕ) → y ≡ gives (frame v) → Heard (h ++ (x ∷ [])) v → Next h x y
   ends v e g = record {
     on = λ f. clash (cc (ap (λ (q : Step). q .answer) e));
-    given = λ w f. subst (Heard (h ++ (x ∷ []))) (ap wordIn (sym (ap (λ (q : Step). q .answer) e) ∙ f)) g;
+    given = λ w f. subst (Heard (h ++ (x ∷ []))) (ap wordGiven (sym (ap (λ (q : Step). q .answer) e) ∙ f)) g;
   }
 
 pub snoc : (n v : ℕ) → replicate n v ++ (v ∷ []) ≡ replicate (n + 1) v
@@ -115,5 +115,5 @@ start-next h b d zero e = go (decLt d 14) (decLt d 7)
     go (yes l) (no q) =
         goes h 0 _ (Bits (pastEdge 1 0 false)) (a-sample (starting d) 0 (omega arith) ∙ start-middle (d + 1) (omega arith) (omega arith))
         (follows b (d + 1) [] (plain 1) (omega arith, omega arith) tt (omega arith) (omega arith, omega arith)
-        (behind h b (replicate 24 0 ++ replicate (d + 1) 1) (lineOf 0 (d + 1) [] ++ []) 0 e (sym (append-nil (lineOf 0 (d + 1) []))))
+        (behind h b (replicate 24 0 ++ replicate (d + 1) 1) (levelsOf 0 (d + 1) [] ++ []) 0 e (sym (append-nil (levelsOf 0 (d + 1) []))))
         refl)

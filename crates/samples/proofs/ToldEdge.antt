@@ -12,7 +12,7 @@ use Rattle.samples.specs.declared.Answer.the-variants.{Refused}
 use Rattle.samples.specs.Reader.{Step}
 use Rattle.samples.specs.Answers.{frame}
 use Rattle.samples.specs.Reading.{gives, goesOn, pastEdge, middleOf, stepOf}
-use Rattle.samples.specs.Edges.{levelOf, Stretch, plain, crossed, Allowed, AllAllowed, turned, levelAfter, lineOf, wordOf}
+use Rattle.samples.specs.Edges.{levelOf, Stretch, plain, crossed, Allowed, AllAllowed, turned, levelAfter, levelsOf, wordIn}
 use Rattle.samples.proofs.Cases.{next-bit, stop-rises, stop-falls}
 use Rattle.samples.proofs.Stretches.{level-last, all-allowed, mid, legSamples, afterLeg, legEnd, leg-last, leg-edge, shift, shiftedBy}
 use Rattle.samples.proofs.Stretches.{word-after, line-last}
@@ -23,7 +23,7 @@ shifted-last : (w : ℕ) (a : Bool) (l : List Stretch) (t : Stretch) →
 shifted-last w a [] t = refl
 shifted-last w a (u ∷ l) t = shifted-last (shift w (turned a u)) (turned a u) l t
 
-word-last : (l : List Stretch) (t : Stretch) → length l < 32 → wordOf (l ++ (t ∷ [])) ≡ shift (wordOf l) (turned (levelAfter false l) t)
+word-last : (l : List Stretch) (t : Stretch) → length l < 32 → wordIn (l ++ (t ∷ [])) ≡ shift (wordIn l) (turned (levelAfter false l) t)
 word-last l t h =
     let n : length (l ++ (t ∷ [])) ≡ length l + 1 = length-append l (t ∷ []) in
     sym (word-after 0 0 false (l ++ (t ∷ [])) (omega arith) (omega arith))
@@ -32,7 +32,7 @@ word-last l t h =
 
 -- the middle edge at the end of a stretch
 module _ (h b : List ℕ) (s : ℕ) (l : List Stretch) (t : Stretch) (hs : (8 ≤ s) × (s ≤ 14)) (hl : AllAllowed l) (len : length l ≤ 32)
-    (e : h ≡ b ++ (lineOf 0 s l ++ legSamples (levelAfter false l) t)) (ht : Allowed t) where
+    (e : h ≡ b ++ (levelsOf 0 s l ++ legSamples (levelAfter false l) t)) (ht : Allowed t) where
   abbrev c : Bool
   c = levelAfter false l
 
@@ -40,15 +40,15 @@ module _ (h b : List ℕ) (s : ℕ) (l : List Stretch) (t : Stretch) (hs : (8 �
   x = levelOf (turned c t)
 
   abbrev y : Step
-  y = stepOf (legEnd (1 + length l) (wordOf l) c t) x
+  y = stepOf (legEnd (1 + length l) (wordIn l) c t) x
 
-  longer : h ++ (x ∷ []) ≡ b ++ lineOf 0 s (l ++ (t ∷ []))
+  longer : h ++ (x ∷ []) ≡ b ++ levelsOf 0 s (l ++ (t ∷ []))
   longer =
-      behind h b (lineOf 0 s l ++ legSamples c t) (lineOf 0 s (l ++ (t ∷ []))) x e
-      (append-assoc (lineOf 0 s l) (legSamples c t) (x ∷ []) ∙ ap (λ (z : List ℕ). lineOf 0 s l ++ z) (sym (leg-last c t)) ∙ sym (line-last 0 s l t))
+      behind h b (levelsOf 0 s l ++ legSamples c t) (levelsOf 0 s (l ++ (t ∷ []))) x e
+      (append-assoc (levelsOf 0 s l) (legSamples c t) (x ∷ []) ∙ ap (λ (z : List ℕ). levelsOf 0 s l ++ z) (sym (leg-last c t)) ∙ sym (line-last 0 s l t))
 
-  edge : y ≡ middleOf (afterLeg (1 + length l) (wordOf l) c t) (turned c t)
-  edge = leg-edge (1 + length l) (wordOf l) c t ht
+  edge : y ≡ middleOf (afterLeg (1 + length l) (wordIn l) c t) (turned c t)
+  edge = leg-edge (1 + length l) (wordIn l) c t ht
 
   next : (k w : ℕ) (t : Stretch) (a : Bool) → k < 33 → middleOf (afterLeg k w c t) a ≡ goesOn (Bits (pastEdge (k + 1) (shift w a) a))
   next k w (plain d) a g = next-bit (afterLeg k w c (plain d)) a g
@@ -62,20 +62,20 @@ module _ (h b : List ℕ) (s : ℕ) (l : List Stretch) (t : Stretch) (hs : (8 �
   falls k w (plain d) a g f = stop-falls (afterLeg k w c (plain d)) a g f
   falls k w (crossed q d) a g f = stop-falls (afterLeg k w c (crossed q d)) a g f
 
-  reader : length l < 32 → record { phase = Bits (pastEdge (1 + length l + 1) (shift (wordOf l) (turned c t)) (turned c t)) }
-      ≡ legEnd (1 + length (l ++ (t ∷ []))) (wordOf (l ++ (t ∷ []))) (levelAfter false (l ++ (t ∷ []))) (plain 1)
+  reader : length l < 32 → record { phase = Bits (pastEdge (1 + length l + 1) (shift (wordIn l) (turned c t)) (turned c t)) }
+      ≡ legEnd (1 + length (l ++ (t ∷ []))) (wordIn (l ++ (t ∷ []))) (levelAfter false (l ++ (t ∷ []))) (plain 1)
   reader g =
       let n : 1 + length l + 1 ≡ 1 + length (l ++ (t ∷ [])) = let m = length-append l (t ∷ []) in omega arith in
-      ap (λ (k : ℕ). mid k (shift (wordOf l) (turned c t)) 0 (turned c t) false) n
+      ap (λ (k : ℕ). mid k (shift (wordIn l) (turned c t)) 0 (turned c t) false) n
       ∙ ap₂ (λ (w : ℕ) (a : Bool). mid (1 + length (l ++ (t ∷ []))) w 0 a false) (sym (word-last l t g)) (sym (level-last false l t))
 
   pub edge-next : Next h x y
   edge-next = go (decLt (length l) 32)
     where
       last : length l ≡ 32 → (a : Bool) → turned c t ≡ a → Next h x y
-      last n true f = refuses h x y 3 (edge ∙ rises (1 + length l) (wordOf l) t (turned c t) (omega arith) f)
+      last n true f = refuses h x y 3 (edge ∙ rises (1 + length l) (wordIn l) t (turned c t) (omega arith) f)
       last n false f =
-          ends h x y (wordOf l) (edge ∙ falls (1 + length l) (wordOf l) t (turned c t) (omega arith) f)
+          ends h x y (wordIn l) (edge ∙ falls (1 + length l) (wordIn l) t (turned c t) (omega arith) f)
           (record {
             before = b;
             start = s;
@@ -92,10 +92,10 @@ module _ (h b : List ℕ) (s : ℕ) (l : List Stretch) (t : Stretch) (hs : (8 �
 
       go : Dec (length l < 32) → Next h x y
       go (yes g) =
-          goes h x y (Bits (pastEdge (1 + length l + 1) (shift (wordOf l) (turned c t)) (turned c t)))
-          (edge ∙ next (1 + length l) (wordOf l) t (turned c t) (omega arith))
+          goes h x y (Bits (pastEdge (1 + length l + 1) (shift (wordIn l) (turned c t)) (turned c t)))
+          (edge ∙ next (1 + length l) (wordIn l) t (turned c t) (omega arith))
           (follows b s (l ++ (t ∷ [])) (plain 1) hs (all-allowed l (t ∷ []) hl (ht, tt)) (let n =
           length-append l (t ∷ []) in omega arith) (omega arith, omega arith)
-          (longer ∙ ap (λ (z : List ℕ). b ++ z) (sym (append-nil (lineOf 0 s (l ++ (t ∷ []))))))
+          (longer ∙ ap (λ (z : List ℕ). b ++ z) (sym (append-nil (levelsOf 0 s (l ++ (t ∷ []))))))
           (reader g))
       go (no g) = last (omega arith) (turned c t) refl

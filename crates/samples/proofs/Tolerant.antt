@@ -10,7 +10,7 @@ use lib.ListN.{length, length-append}
 use Rattle.samples.specs.Answers.{frame, no-stop}
 use Rattle.samples.specs.Reading.{freshOf, gives, middleOf, stepOf}
 use Rattle.samples.specs.Run.{answersOf, afterOf, none, Last}
-use Rattle.samples.specs.Edges.{levelOf, Stretch, plain, crossed, Allowed, AllAllowed, turned, levelAfter, lineOf, wordOf}
+use Rattle.samples.specs.Edges.{levelOf, Stretch, plain, crossed, Allowed, AllAllowed, turned, levelAfter, levelsOf, wordIn}
 use Rattle.samples.proofs.Cases.{stop-rises, stop-falls}
 use Rattle.samples.proofs.Runs.{Quiet, join, ending, ending-after}
 use Rattle.samples.proofs.Stretches.{legSamples, afterLeg, legEnd, leg, leg-last, leg-edge, shiftedBy, word-after, quiet-line, line-last}
@@ -21,15 +21,15 @@ module _ (n s : ℕ) (l : List Stretch) (t : Stretch) (gs : 8 ≤ s) (hs : s ≤
   a = levelAfter false l
 
   abbrev line : List ℕ
-  line = lineOf n s (l ++ (t ∷ []))
+  line = levelsOf n s (l ++ (t ∷ []))
 
   abbrev before-last : List ℕ
-  before-last = lineOf n s l ++ legSamples a t
+  before-last = levelsOf n s l ++ legSamples a t
 
   split : line ≡ before-last ++ (levelOf (turned a t) ∷ [])
   split =
-      line-last n s l t ∙ ap (λ (x : List ℕ). lineOf n s l ++ x) (leg-last a t)
-      ∙ sym (append-assoc (lineOf n s l) (legSamples a t) (levelOf (turned a t) ∷ []))
+      line-last n s l t ∙ ap (λ (x : List ℕ). levelsOf n s l ++ x) (leg-last a t)
+      ∙ sym (append-assoc (levelsOf n s l) (legSamples a t) (levelOf (turned a t) ∷ []))
 
   before-length : length before-last ≡ length line - 1
   before-length =
@@ -45,23 +45,23 @@ module _ (n s : ℕ) (l : List Stretch) (t : Stretch) (gs : 8 ≤ s) (hs : s ≤
   stop k w (crossed e d) true h = stop-rises (afterLeg k w a (crossed e d)) true h refl
   stop k w (crossed e d) false h = stop-falls (afterLeg k w a (crossed e d)) false h refl
 
-  last : stepOf (legEnd (1 + length l) (shiftedBy 0 false l) a t) (levelOf (turned a t)) ≡ gives (cond (turned a t) no-stop (frame (wordOf l)))
+  last : stepOf (legEnd (1 + length l) (shiftedBy 0 false l) a t) (levelOf (turned a t)) ≡ gives (cond (turned a t) no-stop (frame (wordIn l)))
   last =
       leg-edge (1 + length l) (shiftedBy 0 false l) a t ht
       ∙ stop (1 + length l) (shiftedBy 0 false l) t (turned a t) (omega arith)
       ∙ ap (λ (w : ℕ). gives (cond (turned a t) no-stop (frame w))) (word-after 0 0 false l (omega arith) (omega arith))
 
   -- the one answer comes at the last sample
-  judged : Last line (cond (turned a t) no-stop (frame (wordOf l)))
+  judged : Last line (cond (turned a t) no-stop (frame (wordIn l)))
   judged =
-      ap (answersOf freshOf) split ∙ ending (levelOf (turned a t)) (cond (turned a t) no-stop (frame (wordOf l))) quiet last
-      ∙ ap (λ (k : ℕ). none k ++ (cond (turned a t) no-stop (frame (wordOf l)) ∷ [])) before-length
+      ap (answersOf freshOf) split ∙ ending (levelOf (turned a t)) (cond (turned a t) no-stop (frame (wordIn l))) quiet last
+      ∙ ap (λ (k : ℕ). none k ++ (cond (turned a t) no-stop (frame (wordIn l)) ∷ [])) before-length
 
-  pub tolerant : turned (levelAfter false l) t ≡ false → Last line (frame (wordOf l))
-  tolerant falls = judged ∙ ap (λ (b : Bool). none (length line - 1) ++ (cond b no-stop (frame (wordOf l)) ∷ [])) falls
+  pub tolerant : turned (levelAfter false l) t ≡ false → Last line (frame (wordIn l))
+  tolerant falls = judged ∙ ap (λ (b : Bool). none (length line - 1) ++ (cond b no-stop (frame (wordIn l)) ∷ [])) falls
 
   pub rising-stop : turned (levelAfter false l) t ≡ true → Last line no-stop
-  rising-stop rises = judged ∙ ap (λ (b : Bool). none (length line - 1) ++ (cond b no-stop (frame (wordOf l)) ∷ [])) rises
+  rising-stop rises = judged ∙ ap (λ (b : Bool). none (length line - 1) ++ (cond b no-stop (frame (wordIn l)) ∷ [])) rises
 
   pub fresh-again : afterOf freshOf line ≡ freshOf
-  fresh-again = ap (afterOf freshOf) split ∙ ending-after (levelOf (turned a t)) (cond (turned a t) no-stop (frame (wordOf l))) quiet last
+  fresh-again = ap (afterOf freshOf) split ∙ ending-after (levelOf (turned a t)) (cond (turned a t) no-stop (frame (wordIn l))) quiet last

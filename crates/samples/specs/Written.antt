@@ -29,9 +29,9 @@ unfoldable pub samplesOf : ℕ → List ℕ
 samplesOf w = inSamples (frameBits w)
 
 -- 01's number of each answer; 0 where it has none
-abbrev pub numberOf : Written → ℕ
-numberOf Done = 0
-numberOf (Refused n) = n
+abbrev pub writtenNumber : Written → ℕ
+writtenNumber Done = 0
+writtenNumber (Refused n) = n
 
 -- "15: lent room below 680 (samples)"
 abbrev pub no-room : Written

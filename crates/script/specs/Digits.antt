@@ -11,13 +11,13 @@ use Rattle.script.specs.declared.Hex.the-variants as hex
 use Rattle.script.specs.declared.decimal.Number.{Number}
 use Rattle.script.specs.declared.decimal.Number.the-variants as number
 
-abbrev pub within : ℕ → ℕ → ℕ → Bool
-within from to b = leb from b && leb b to
+abbrev pub inRange : ℕ → ℕ → ℕ → Bool
+inRange from to b = leb from b && leb b to
 
 -- only 0 to 9
 unfoldable pub allDecimal : List ℕ → Bool
 allDecimal [] = true
-allDecimal (b ∷ s) = within 48 57 b && allDecimal s
+allDecimal (b ∷ s) = inRange 48 57 b && allDecimal s
 
 -- the number of which these are the next digits
 unfoldable pub decimalFrom : ℕ → List ℕ → ℕ
@@ -25,16 +25,16 @@ decimalFrom v [] = v
 decimalFrom v (b ∷ s) = decimalFrom (v * 10 + (b - 48)) s
 
 -- digits alone, behind a number, and together at most so much
-unfoldable pub numberFrom : ℕ → ℕ → List ℕ → Number
-numberFrom most v s = cond (allDecimal s && leb (decimalFrom v s) most) (number.Value (decimalFrom v s)) number.Nothing
+unfoldable pub boundedFrom : ℕ → ℕ → List ℕ → Number
+boundedFrom most v s = cond (allDecimal s && leb (decimalFrom v s) most) (number.Value (decimalFrom v s)) number.Nothing
 
 -- a decimal number: one digit or more, no sign, at most so much
-unfoldable pub numberOf : ℕ → List ℕ → Number
-numberOf most s = cond (eqb (length s) 0) number.Nothing (numberFrom most 0 s)
+unfoldable pub boundedOf : ℕ → List ℕ → Number
+boundedOf most s = cond (eqb (length s) 0) number.Nothing (boundedFrom most 0 s)
 
 -- the value of a hexadecimal digit, 0 to 9, A to F or a to f; 16 for any other byte
 unfoldable pub digitOf : ℕ → ℕ
-digitOf b = cond (within 48 57 b) (b - 48) (cond (within 65 70 b) (b - 55) (cond (within 97 102 b) (b - 87) 16))
+digitOf b = cond (inRange 48 57 b) (b - 48) (cond (inRange 65 70 b) (b - 55) (cond (inRange 97 102 b) (b - 87) 16))
 
 unfoldable pub allHex : List ℕ → Bool
 allHex [] = true
@@ -55,5 +55,5 @@ unfoldable pub fitting : ℕ → List ℕ → List ℕ
 fitting n s = cond (fits n s) (pairsOf s) []
 
 -- eight digits, as a word of 32 bits
-unfoldable pub wordOf : List ℕ → Hex
-wordOf s = cond (eqb (length s) 8 && fits 4 s) (hex.Word (wordAt (pairsOf s) 0)) hex.Nothing
+unfoldable pub hexWordOf : List ℕ → Hex
+hexWordOf s = cond (eqb (length s) 8 && fits 4 s) (hex.Word (wordAt (pairsOf s) 0)) hex.Nothing

@@ -17,7 +17,7 @@ use Rattle.script.specs.declared.Hex.{Hex}
 use Rattle.script.specs.declared.Hex.the-variants as hex
 use Rattle.script.specs.declared.decimal.Number.{Number}
 use Rattle.script.specs.declared.decimal.Number.the-variants as number
-use Rattle.script.specs.Digits.{numberOf, wordOf, fits, pairsOf}
+use Rattle.script.specs.Digits.{boundedOf, hexWordOf, fits, pairsOf}
 
 -- what a line says, and the bytes of its message
 pub record Read : Type 0 where
@@ -25,8 +25,8 @@ pub record Read : Type 0 where
   pub bytes : List ℕ
 
 -- no message, or none that has bytes
-abbrev pub bare : Event → Read
-bare e = record { event = e; bytes = [] }
+abbrev pub withoutBytes : Event → Read
+withoutBytes e = record { event = e; bytes = [] }
 
 -- bytes in front of a room; what is behind them stays
 abbrev pub placed : List ℕ → List ℕ → List ℕ
@@ -42,37 +42,37 @@ unfoldable pub endOf : List ℕ → ℕ
 endOf [] = 0
 endOf (b ∷ s) = cond (eqb b 32) 0 (suc (endOf s))
 
-abbrev pub ticked : Number → Event
-ticked (number.Value n) = cond (eqb n 0) Wrong (Ticks n)
-ticked number.Nothing = Wrong
+abbrev pub tickedBy : Number → Event
+tickedBy (number.Value n) = cond (eqb n 0) Wrong (Ticks n)
+tickedBy number.Nothing = Wrong
 
-unfoldable pub ticksOf : List ℕ → Event
-ticksOf s = ticked (numberOf 4294967295 s)
+unfoldable pub tickLine : List ℕ → Event
+tickLine s = tickedBy (boundedOf 4294967295 s)
 
 abbrev pub lent : Number → Event
 lent (number.Value n) = Room n
 lent number.Nothing = Wrong
 
-unfoldable pub roomOf : List ℕ → Event
-roomOf s = lent (numberOf 300 s)
+unfoldable pub roomLine : List ℕ → Event
+roomLine s = lent (boundedOf 300 s)
 
 -- of the boiler, or of the thermostat
 abbrev pub from : Bool → ℕ → ℕ → Event
 from true n w = Boiler n w
 from false n w = Thermostat n w
 
-abbrev pub framed : Number → Hex → Bool → Event
-framed number.Nothing w boiler = Wrong
-framed (number.Value n) hex.Nothing boiler = Wrong
-framed (number.Value n) (hex.Word w) boiler = from boiler n w
+abbrev pub framedBy : Number → Hex → Bool → Event
+framedBy number.Nothing w boiler = Wrong
+framedBy (number.Value n) hex.Nothing boiler = Wrong
+framedBy (number.Value n) (hex.Word w) boiler = from boiler n w
 
 -- a number up to the first space, and a word behind it
-unfoldable pub frameOf : Bool → List ℕ → Event
-frameOf boiler s = framed (numberOf 255 (take (endOf s) s)) (wordOf (drop (endOf s + 1) s)) boiler
+unfoldable pub frameLine : Bool → List ℕ → Event
+frameLine boiler s = framedBy (boundedOf 255 (take (endOf s) s)) (hexWordOf (drop (endOf s + 1) s)) boiler
 
 -- one byte or more, as many as a room of n bytes holds
-unfoldable pub messageOf : ℕ → List ℕ → Read
-messageOf n s = cond (ltb 0 (length s) && fits n s) (record { event = Message (length s / 2); bytes = pairsOf s }) (bare Wrong)
+unfoldable pub messageLine : ℕ → List ℕ → Read
+messageLine n s = cond (ltb 0 (length s) && fits n s) (record { event = Message (length s / 2); bytes = pairsOf s }) (withoutBytes Wrong)
 
 -- `#`
 abbrev pub note : List ℕ
@@ -103,16 +103,16 @@ unfoldable pub aloneOf : List ℕ → Event
 aloneOf s = cond (eqb (length s) 6 && begins modbus s) (Message 0) Wrong
 
 -- a line that has no bytes of a message, its end left out
-unfoldable pub plainOf : List ℕ → Event
-plainOf s =
+unfoldable pub plainLine : List ℕ → Event
+plainLine s =
     cond (eqb (length s) 0) Skip
     (cond (begins note s) Skip
-    (cond (begins tick s) (ticksOf (drop 5 s))
-    (cond (begins thermostat s) (frameOf false (drop 11 s))
-    (cond (begins boiler s) (frameOf true (drop 7 s))
-    (cond (begins room s) (roomOf (drop 5 s))
+    (cond (begins tick s) (tickLine (drop 5 s))
+    (cond (begins thermostat s) (frameLine false (drop 11 s))
+    (cond (begins boiler s) (frameLine true (drop 7 s))
+    (cond (begins room s) (roomLine (drop 5 s))
     (aloneOf s))))))
 
 -- a whole line; there is room for n bytes of a message
-unfoldable pub readOf : ℕ → List ℕ → Read
-readOf n s = cond (begins (modbus ++ (32 ∷ [])) s) (messageOf n (drop 7 s)) (bare (plainOf s))
+unfoldable pub scriptLine : ℕ → List ℕ → Read
+scriptLine n s = cond (begins (modbus ++ (32 ∷ [])) s) (messageLine n (drop 7 s)) (withoutBytes (plainLine s))

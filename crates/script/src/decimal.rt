@@ -1,6 +1,6 @@
 // A field of decimal digits, read into a number.
 ghost use mathlib.Core.Path.{_≡_};
-ghost use Rattle.script.specs.Digits.{numberOf};
+ghost use Rattle.script.specs.Digits.{boundedOf};
 
 pub(crate) enum Number {
     Value(u32),
@@ -9,7 +9,7 @@ pub(crate) enum Number {
 
 // One digit or more, and at most `most`.
 pub(crate) fn number_of(s: &[u8], most: u32) -> Number
-    ensures { λ r. ⌜ r ≡ numberOf most (now (s .entry)) ⌝ }
+    ensures { λ r. ⌜ r ≡ boundedOf most (now (s .entry)) ⌝ }
 {
     if s.len() == 0 {
         return Number::Nothing;

@@ -9,19 +9,19 @@ use places::word_at;
 ghost use mathlib.Core.Path.{_≡_};
 ghost use Prim.Native.Nat.{_≤_};
 ghost use lib.ListN.{length};
-ghost use Rattle.script.specs.Digits.{wordOf};
+ghost use Rattle.script.specs.Digits.{hexWordOf};
 ghost use Rattle.script.specs.Lines.{
   begins as beginsOf,
   endOf,
-  ticksOf,
-  roomOf,
+  tickLine,
+  roomLine,
   from as fromOf,
-  frameOf,
+  frameLine,
   placed,
-  messageOf,
+  messageLine,
   aloneOf,
-  plainOf,
-  readOf,
+  plainLine,
+  scriptLine,
 };
 
 // What a line of the script says. The bytes of a message stand in the room that was lent for them.
@@ -73,7 +73,7 @@ fn field_end(s: &[u8]) -> usize
 }
 
 fn word(s: &[u8]) -> Hex
-    ensures { λ r. ⌜ r ≡ wordOf (now (s .entry)) ⌝ }
+    ensures { λ r. ⌜ r ≡ hexWordOf (now (s .entry)) ⌝ }
 {
     if s.len() != 8 {
         return Hex::Nothing;
@@ -86,7 +86,7 @@ fn word(s: &[u8]) -> Hex
 }
 
 fn ticks(s: &[u8]) -> Event
-    ensures { λ r. ⌜ r ≡ ticksOf (now (s .entry)) ⌝ }
+    ensures { λ r. ⌜ r ≡ tickLine (now (s .entry)) ⌝ }
 {
     let Number::Value(n) = number_of(s, 4294967295) else {
         return Event::Wrong;
@@ -98,7 +98,7 @@ fn ticks(s: &[u8]) -> Event
 }
 
 fn room(s: &[u8]) -> Event
-    ensures { λ r. ⌜ r ≡ roomOf (now (s .entry)) ⌝ }
+    ensures { λ r. ⌜ r ≡ roomLine (now (s .entry)) ⌝ }
 {
     let Number::Value(n) = number_of(s, 300) else {
         return Event::Wrong;
@@ -119,7 +119,7 @@ fn from(boiler: bool, n: u8, w: u32) -> Event
 
 // A line's number and a word.
 fn frame(s: &[u8], boiler: bool) -> Event
-    ensures { λ r. ⌜ r ≡ frameOf boiler (now (s .entry)) ⌝ }
+    ensures { λ r. ⌜ r ≡ frameLine boiler (now (s .entry)) ⌝ }
 {
     let end = field_end(s);
     let Number::Value(n) = number_of(&s[..end], 255) else {
@@ -136,8 +136,8 @@ fn frame(s: &[u8], boiler: bool) -> Event
 
 // The bytes of a message: a pair of digits or more.
 fn message(s: &[u8], bytes: &mut [u8]) -> Event
-    ensures { λ r. ⌜ (r ≡ messageOf (length (now (bytes .entry))) (now (s .entry)) .event)
-        × (now (bytes .exit) ≡ placed (messageOf (length (now (bytes .entry))) (now (s .entry)) .bytes) (now (bytes .entry))) ⌝ }
+    ensures { λ r. ⌜ (r ≡ messageLine (length (now (bytes .entry))) (now (s .entry)) .event)
+        × (now (bytes .exit) ≡ placed (messageLine (length (now (bytes .entry))) (now (s .entry)) .bytes) (now (bytes .entry))) ⌝ }
 {
     if s.len() == 0 {
         return Event::Wrong;
@@ -163,7 +163,7 @@ fn alone(line: &[u8]) -> Event
 
 // A line that lends no bytes to a message.
 fn plain(line: &[u8]) -> Event
-    ensures { λ r. ⌜ r ≡ plainOf (now (line .entry)) ⌝ }
+    ensures { λ r. ⌜ r ≡ plainLine (now (line .entry)) ⌝ }
 {
     if line.len() == 0 {
         return Event::Skip;
@@ -188,8 +188,8 @@ fn plain(line: &[u8]) -> Event
 
 // A whole line, its end left out.
 pub fn event_of(line: &[u8], bytes: &mut [u8]) -> Event
-    ensures { λ r. ⌜ (r ≡ readOf (length (now (bytes .entry))) (now (line .entry)) .event)
-        × (now (bytes .exit) ≡ placed (readOf (length (now (bytes .entry))) (now (line .entry)) .bytes) (now (bytes .entry))) ⌝ }
+    ensures { λ r. ⌜ (r ≡ scriptLine (length (now (bytes .entry))) (now (line .entry)) .event)
+        × (now (bytes .exit) ≡ placed (scriptLine (length (now (bytes .entry))) (now (line .entry)) .bytes) (now (bytes .entry))) ⌝ }
 {
     if begins(line, b"modbus ") {
         return message(&line[7..], bytes);

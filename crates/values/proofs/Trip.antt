@@ -10,10 +10,12 @@ use lib.Ieee.{Float}
 use mir.Syntax.{w8, w16}
 use mir.Val.{toZ}
 use mir.ValLaws.{ofZ-toZ}
+use Rattle.word.specs.Numbers.{Valued, valued, refused}
 use Rattle.word.proofs.Clash.{clash}
 use Rattle.ids.specs.Ids.{kindOf}
 use Rattle.values.specs.Real.{realOf, BackOf}
 use Rattle.values.specs.Typed.{readAs, BitsOf}
+use Rattle.values.specs.Numbers.{backValue}
 use Rattle.values.specs.declared.Back.{Back}
 use Rattle.values.specs.declared.Back.the-variants.{Bits, Refused}
 use Rattle.values.specs.declared.Typed.{Typed}
@@ -37,9 +39,22 @@ round-trip k raw h r = go (eqb k 1) (eqb k 2) (eqb k 3) (eqb k 4) (eqb k 5)
         ∙ ap Bits (div-add-mod' raw 256)
     go false false false false false p = p
 
+-- two answers that are the same in 01's numbers are equal
+back : Valued → Back
+back (valued raw) = Bits raw
+back (refused n) = Refused n
+
+value-back : (r : Back) → back (backValue r) ≡ r
+unfolding back
+value-back (Bits raw) = refl
+value-back (Refused n) = refl
+
+pub one-back : (r s : Back) → backValue r ≡ backValue s → r ≡ s
+one-back r s e = sym (value-back r) ∙ ap back e ∙ value-back s
+
 -- "Each typed value turns back into its 16 bits": every id, all 65,536 values
-pub there-and-back : (id raw : ℕ) → raw < 0x1_0000 → (r : Back) → BitsOf (readAs (kindOf id) raw) r → r ≡ Bits raw
-there-and-back id raw h r p = round-trip (kindOf id) raw h r p
+pub there-and-back : (id raw : ℕ) → raw < 0x1_0000 → (r : Back) → BitsOf (readAs (kindOf id) raw) r → backValue r ≡ valued raw
+there-and-back id raw h r p = ap backValue (round-trip (kindOf id) raw h r p)
 
 -- two answers that the contract allows are equal
 back-one : (x : Float) (r s : Back) → BackOf x r → BackOf x s → r ≡ s
@@ -59,6 +74,6 @@ bits-one (Raw n) r s p q = p ∙ sym q
 pub refused-none : (x : Float) (n : ℕ) → BackOf x (Refused n) → (raw : ℕ) → raw < 0x1_0000 → x ≡ realOf raw → ⊥
 refused-none x n p raw h e = let q : Refused n ≡ Bits raw = p .given raw h e in clash cc
 
-pub none-refused : (x : Float) (r : Back) → BackOf x r → ((raw : ℕ) → raw < 0x1_0000 → x ≡ realOf raw → ⊥) → r ≡ Refused 10
+pub none-refused : (x : Float) (r : Back) → BackOf x r → ((raw : ℕ) → raw < 0x1_0000 → x ≡ realOf raw → ⊥) → backValue r ≡ refused 10
 none-refused x (Bits a) p f = absurd (f a (p .found a refl .0) (p .found a refl .1))
-none-refused x (Refused n) p f = ap Refused (p .number n refl)
+none-refused x (Refused n) p f = ap refused (p .number n refl)

@@ -33,3 +33,16 @@ then (c ∷ cs) (all e p) f = later e (then cs p f)
 pub sooner : {cs : List Check} (ds : List Check) {n : ℕ} → Fails cs n → Fails (cs ++ ds) n
 sooner ds (here e) = here e
 sooner ds (later e f) = later e (sooner ds f)
+
+pub joined : {cs ds : List Check} → Passes cs → Passes ds → Passes (cs ++ ds)
+joined none q = q
+joined (all e p) q = all e (joined p q)
+
+pub rest : (cs : List Check) {ds : List Check} → Passes (cs ++ ds) → Passes ds
+rest [] p = p
+rest (c ∷ cs) (all e p) = rest cs p
+
+-- no list does both
+pub excluded : {cs : List Check} {n : ℕ} → Fails cs n → Passes cs → ⊥
+excluded (here f) (all e p) = clash cc
+excluded (later g f) (all e p) = excluded f p

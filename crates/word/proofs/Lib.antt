@@ -3,6 +3,7 @@ pub mod Clash
 pub mod Checks
 pub mod Parity
 pub mod Fields
+pub mod Numbers
 pub mod Table
 pub mod Match
 pub mod Worked

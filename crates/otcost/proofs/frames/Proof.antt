@@ -7,28 +7,19 @@ use Rattle.otcost.proofs.frames.Statement.{statement}
 use Rattle.otcost.proofs.frames.Tie as tie
 
 abbrev Inv-loop : tie.InvT-loop
-Inv-loop n room₀ gateway₀ count₀ left₀ room gateway count left = length room ≡ length room₀
+Inv-loop block n room₀ line word gateway₀ count₀ left₀ room gateway count left = length room ≡ length room₀
 
 abbrev μ-loop : tie.MeasureT-loop
-μ-loop n room₀ gateway₀ count₀ left₀ room gateway count left = left
+μ-loop block n room₀ line word gateway₀ count₀ left₀ room gateway count left = left
 
-fresh-requires : tie.Need-fresh-requires Inv-loop μ-loop
-fresh-requires c κs = search needs
+byte-at-requires : tie.Need-byte-at-requires Inv-loop μ-loop
+byte-at-requires c κs = search needs
 
-thermostat-requires : tie.Need-thermostat-requires Inv-loop μ-loop
-thermostat-requires c κs = search needs
-
-slice-aggregate-ticked : tie.Need-slice-aggregate-ticked Inv-loop μ-loop
-slice-aggregate-ticked c = search needs
-
-ticked-requires : tie.Need-ticked-requires Inv-loop μ-loop
-ticked-requires c κs = search needs
+word-at-requires : tie.Need-word-at-requires Inv-loop μ-loop
+word-at-requires c κs = search needs
 
 loop-holds : tie.Need-loop-holds Inv-loop μ-loop
 loop-holds c = search needs
-
-slice-aggregate-boiler : tie.Need-slice-aggregate-boiler Inv-loop μ-loop
-slice-aggregate-boiler c = search needs
 
 boiler-requires : tie.Need-boiler-requires Inv-loop μ-loop
 boiler-requires c κs = search needs
@@ -45,6 +36,9 @@ loop-less c = search needs
 loop-again : tie.Need-loop-again Inv-loop μ-loop
 loop-again c = search needs
 
+same-length : tie.Need-same-length Inv-loop μ-loop
+same-length c = search needs
+
 returns : tie.Need-returns Inv-loop μ-loop
 returns c = search needs
 
@@ -54,15 +48,13 @@ frames-spec =
     (tie.spec
     Inv-loop
     μ-loop
-    fresh-requires
-    thermostat-requires
-    slice-aggregate-ticked
-    ticked-requires
+    byte-at-requires
+    word-at-requires
     loop-holds
-    slice-aggregate-boiler
     boiler-requires
     told-requires
     sub-left
     loop-less
     loop-again
+    same-length
     returns)

@@ -1,22 +1,21 @@
--- `otcost::number` is safe and ends. The measure is what is left of the line.
+-- `otcost::number` is safe and ends. The measure is the digits left.
 -- Assumes nothing.
 use borrow.Author.Needs.{needs}
 use Prim.Native.Nat.{_-_}
-use lib.ListN.{length}
 use Rattle.otcost.proofs.number.Statement.{statement}
 use Rattle.otcost.proofs.number.Tie as tie
 
 abbrev Inv-loop : tie.InvT-loop
-Inv-loop line n₀ i₀ n i = Unit {0}
+Inv-loop block n₀ i₀ n i = Unit {0}
 
 abbrev μ-loop : tie.MeasureT-loop
-μ-loop line n₀ i₀ n i = length line - i
+μ-loop block n₀ i₀ n i = 16 - i
 
 loop-holds : tie.Need-loop-holds Inv-loop μ-loop
 loop-holds c = search needs
 
-shared-slice-read-byte : tie.Need-shared-slice-read-byte Inv-loop μ-loop
-shared-slice-read-byte c = search needs
+byte-at-requires : tie.Need-byte-at-requires Inv-loop μ-loop
+byte-at-requires c κs = search needs
 
 mul-n : tie.Need-mul-n Inv-loop μ-loop
 mul-n c = search needs
@@ -46,7 +45,7 @@ number-spec =
     Inv-loop
     μ-loop
     loop-holds
-    shared-slice-read-byte
+    byte-at-requires
     mul-n
     cast-n
     add-n

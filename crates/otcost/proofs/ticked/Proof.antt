@@ -7,10 +7,10 @@ use Rattle.otcost.proofs.ticked.Statement.{statement}
 use Rattle.otcost.proofs.ticked.Tie as tie
 
 abbrev Inv-loop : tie.InvT-loop
-Inv-loop n room₀ gateway₀ last₀ left₀ room gateway last left = length room ≡ length room₀
+Inv-loop n room₀ gateway₀ left₀ room gateway left = length room ≡ length room₀
 
 abbrev μ-loop : tie.MeasureT-loop
-μ-loop n room₀ gateway₀ last₀ left₀ room gateway last left = left
+μ-loop n room₀ gateway₀ left₀ room gateway left = left
 
 loop-holds : tie.Need-loop-holds Inv-loop μ-loop
 loop-holds c = search needs

@@ -9,10 +9,11 @@ use Rattle.otreplay.proofs.lines.Statement.{statement}
 use Rattle.otreplay.proofs.lines.Tie as tie
 
 abbrev Inv-loop : tie.InvT-loop
-Inv-loop block held₀ room₀ desk₀ from₀ held room desk from = (length held ≡ length held₀) × (length room ≡ length room₀)
+Inv-loop block held₀ room₀ page₀ desk₀ from₀ held room page desk from =
+    (length held ≡ length held₀) × (length room ≡ length room₀) × (length page ≡ length page₀)
 
 abbrev μ-loop : tie.MeasureT-loop
-μ-loop block held₀ room₀ desk₀ from₀ held room desk from = length block - from
+μ-loop block held₀ room₀ page₀ desk₀ from₀ held room page desk from = length block - from
 
 loop-holds : tie.Need-loop-holds Inv-loop μ-loop
 loop-holds c = search needs
@@ -50,6 +51,9 @@ same-length c = search needs
 same-length-2 : tie.Need-same-length-2 Inv-loop μ-loop
 same-length-2 c = search needs
 
+same-length-3 : tie.Need-same-length-3 Inv-loop μ-loop
+same-length-3 c = search needs
+
 returns : tie.Need-returns Inv-loop μ-loop
 returns c = search needs
 
@@ -71,4 +75,5 @@ lines-spec =
     loop-again
     same-length
     same-length-2
+    same-length-3
     returns)

@@ -32,17 +32,17 @@ read-requires c κs = search needs
 array-share-prefix-block : tie.Need-array-share-prefix-block Inv-loop μ-loop
 array-share-prefix-block c = search needs
 
-slice-aggregate-lines : tie.Need-slice-aggregate-lines Inv-loop μ-loop
-slice-aggregate-lines c = sym (length-take-le _ _ (omega arith))
+slice-aggregate-play : tie.Need-slice-aggregate-play Inv-loop μ-loop
+slice-aggregate-play c = sym (length-take-le _ _ (omega arith))
 
-slice-aggregate-lines-2 : tie.Need-slice-aggregate-lines-2 Inv-loop μ-loop
-slice-aggregate-lines-2 c = search needs
+slice-aggregate-play-2 : tie.Need-slice-aggregate-play-2 Inv-loop μ-loop
+slice-aggregate-play-2 c = search needs
 
-slice-aggregate-lines-3 : tie.Need-slice-aggregate-lines-3 Inv-loop μ-loop
-slice-aggregate-lines-3 c = search needs
+slice-aggregate-play-3 : tie.Need-slice-aggregate-play-3 Inv-loop μ-loop
+slice-aggregate-play-3 c = search needs
 
-lines-requires : tie.Need-lines-requires Inv-loop μ-loop
-lines-requires c κs = search needs
+play-requires : tie.Need-play-requires Inv-loop μ-loop
+play-requires c κs = search needs
 
 left-requires : tie.Need-left-requires Inv-loop μ-loop
 left-requires c κs = search needs
@@ -53,14 +53,14 @@ loop-less c = search needs
 loop-again : tie.Need-loop-again Inv-loop μ-loop
 loop-again c = search needs
 
-slice-aggregate-held-line : tie.Need-slice-aggregate-held-line Inv-loop μ-loop
-slice-aggregate-held-line c = search needs
+slice-aggregate-last : tie.Need-slice-aggregate-last Inv-loop μ-loop
+slice-aggregate-last c = search needs
 
-slice-aggregate-held-line-2 : tie.Need-slice-aggregate-held-line-2 Inv-loop μ-loop
-slice-aggregate-held-line-2 c = search needs
+slice-aggregate-last-2 : tie.Need-slice-aggregate-last-2 Inv-loop μ-loop
+slice-aggregate-last-2 c = search needs
 
-held-line-requires : tie.Need-held-line-requires Inv-loop μ-loop
-held-line-requires c κs = search needs
+last-requires : tie.Need-last-requires Inv-loop μ-loop
+last-requires c κs = search needs
 
 returns : tie.Need-returns Inv-loop μ-loop
 returns c = search needs
@@ -77,14 +77,14 @@ main-spec =
     slice-aggregate-read
     read-requires
     array-share-prefix-block
-    slice-aggregate-lines
-    slice-aggregate-lines-2
-    slice-aggregate-lines-3
-    lines-requires
+    slice-aggregate-play
+    slice-aggregate-play-2
+    slice-aggregate-play-3
+    play-requires
     left-requires
     loop-less
     loop-again
-    slice-aggregate-held-line
-    slice-aggregate-held-line-2
-    held-line-requires
+    slice-aggregate-last
+    slice-aggregate-last-2
+    last-requires
     returns)

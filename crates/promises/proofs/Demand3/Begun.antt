@@ -1,124 +1,140 @@
--- Acceptance, in the box and on the line: an order on a line is an accepted message's, and a message that is accepted asks one order.
+-- Acceptance, in the box and on the line: an order on a line is an accepted message's, a message that is accepted asks one order, and its line
+-- accepts it.
 -- Assumes nothing.
 use Prim.Native.Nat.{ℕ, suc}
-use mathlib.Core.Path.{_≡_, refl, sym, ap, _∙_}
-use mathlib.Core.Bool.{Bool, true, false, cond, _&&_}
-use native.Mathlib.Omega.{arith}
-use lib.Dec.{eqb, leb}
-use borrow.Author.Tests.{eqb-true}
+use mathlib.Core.Path.{_≡_, refl, sym, ap, _∙_, subst}
+use mathlib.Core.Logic.{⊎-elim}
+use mathlib.Core.Bool.{Bool, true, false, cond}
+use mathlib.Core.List.{[]}
+use lib.Dec.{eqb}
+use borrow.Author.Tests.{eqb-true, eq-eqb, le-leb}
 use Rattle.word.proofs.Clash.{clash}
-use Rattle.word.proofs.Match.{both}
-use Rattle.turns.specs.declared.Question.{Question}
+use Rattle.turns.specs.declared.Query.{Query}
+use Rattle.turns.specs.Events.{Event, ends, Never}
 use Rattle.turns.specs.Events as line
+use Rattle.turns.specs.Promise.{Accepted, UnderWay}
+use Rattle.turns.specs.History.{sight}
 use Rattle.modbus.specs.declared.Order.{Order}
-use Rattle.modbus.specs.declared.Reading.{Reading}
 use Rattle.modbus.specs.declared.Reading.the-variants as reading
-use Rattle.modbus.specs.Wire.{requestOf}
+use Rattle.modbus.specs.Wrapping.{Wrapping, Lawful}
 use Rattle.promises.specs.declared.Asked.the-variants.{Nothing, Waits}
-use Rattle.promises.specs.declared.Told.{Told}
-use Rattle.promises.specs.declared.Told.the-variants as told
+use Rattle.promises.specs.Box.{Gateway}
+use Rattle.promises.specs.Notes.{BoxNote, accepted, concernOf}
 use Rattle.promises.specs.Settle.{questionOf}
-use Rattle.promises.specs.Inputs.{Input, tick, thermostat, boiler, message, Inputs}
-use Rattle.promises.specs.History.{boxAt, given}
-use Rattle.promises.specs.Projection.{taken, orderOn, eventOn}
-use Rattle.promises.specs.Demand3.{Asks}
-use Rattle.promises.proofs.Demand3.Effects.{concerns, Effect, begins, stays, finishes}
-use Rattle.promises.proofs.Demand3.Orders.{effect-at}
-use Rattle.promises.proofs.Demand3.Under.{E, under, under-next}
+use Rattle.promises.specs.Entries.{takenOf}
+use Rattle.promises.specs.Inputs.{Input, tick, message, Inputs, Gift, Four}
+use Rattle.promises.specs.History.{next, nowhere, boxAt, given}
+use Rattle.promises.specs.Projection.{eventOn}
+use Rattle.promises.specs.Demand3.{AsksFor}
+use Rattle.promises.proofs.Entries.Cases.{gift, Case, aside, ticks, relays, hears, takes, case-of}
+use Rattle.promises.proofs.Projection.Sight.{tick-seen, order-seen}
+use Rattle.promises.proofs.Demand3.Effects.{Effect, begins, stays, finishes, unit-of, effect-at}
+use Rattle.promises.proofs.Demand3.Under.{seen, E, S, under, under-next, track, on-line}
 
-module _ (h : Inputs) where
+-- an input that is an order to line k is an accepted message
+record Orders (W : Wrapping) (k : ℕ) (w : Query) (x : Input) (g′ : Gateway) (s : Gift) : Type 0 where
+  pub o : Order
+  pub asks : AsksFor W o x
+  pub taken : s .told ≡ accepted
+  pub line : o .line ≡ k
+  pub word : questionOf o ≡ w
+  pub first : g′ .asked ≡ Waits o
+
+module _ (W : Wrapping) (g : Gateway) {k : ℕ} (f : Four k) (w : Query) where
+  other : (e : Event) (b : Bool) → (e ≡ line.order w → ⊥) → cond b e line.pass ≡ line.order w → ⊥
+  other e true off q = off q
+  other e false off q = clash cc
+
+  orders : {x : Input} {g′ : Gateway} {s : Gift} → Case W g x g′ s → eventOn W k x (s .told) ≡ line.order w → Orders W k w x g′ s
+  unfolding takenOf
+  orders (aside t r out z is still unseen) e = let p : line.pass ≡ line.order w = sym (unseen k f) ∙ e in clash cc
+  orders (ticks n h) e =
+      let p : line.tick ≡ line.order w = sym (tick-seen W k accepted (tick n) (record { room = n; is = refl; enough = h })) ∙ e in
+      clash cc
+  orders (relays {l} x mine) e = absurd (other (line.thermostat x) (eqb l k) (λ q. clash cc) e)
+  orders (hears {l} x n h mine) e =
+      absurd
+      (other (line.boiler x) (eqb l k) (λ q. clash cc)
+      (sym (ap (λ (b : Bool). cond b (cond (eqb l k) (line.boiler x) line.pass) line.pass) (le-leb 16 n h)) ∙ e))
+  orders {x} (takes o free asks) e = go (eqb (o .line) k) refl (sym (order-seen W k x o asks) ∙ e)
+    where
+      go : (b : Bool) → eqb (o .line) k ≡ b → cond b (line.order (questionOf o)) line.pass ≡ line.order w →
+          Orders W k w x (takenOf g o .gateway) (gift accepted [] nowhere)
+      go true p q = record { o = o; asks = asks; taken = refl; line = eqb-true (o .line) k p; word = cc; first = refl }
+      go false p q = clash cc
+
+module _ {W : Wrapping} (law : Lawful W) (h : Inputs) where
   -- an order on line k is an accepted message's
-  pub record Begun (k i : ℕ) (w : Question) : Type 0 where
+  pub record Begun (k i : ℕ) (w : Query) : Type 0 where
     pub o : Order
-    pub asks : Asks (h i) o
-    pub taken : given h i .told ≡ told.Accepted
+    pub accepted : Accepted (seen law h) i o
     pub line : o .line ≡ k
     pub word : questionOf o ≡ w
-    pub first : under h (suc i) ≡ Waits o
+    pub first : under law h (suc i) ≡ Waits o
 
-  taken-told : (t : Told) → taken t ≡ true → t ≡ told.Accepted
-  taken-told told.Accepted e = refl
-  taken-told told.Quiet e = clash cc
-  taken-told told.Held e = clash cc
-  taken-told (told.Passed f) e = clash cc
-  taken-told told.Dropped e = clash cc
-  taken-told (told.Reply c) e = clash cc
-  taken-told (told.Outcome c w) e = clash cc
-  taken-told (told.Refused n) e = clash cc
+  pub order-on : {k : ℕ} → Four k → (i : ℕ) (w : Query) → E law h k i ≡ line.order w → Begun k i w
+  order-on f i w e =
+      let b = orders W (boxAt W h i) f w (case-of W (boxAt W h i) (h i)) e in
+      record {
+        o = b .o;
+        accepted = record { asked = b .asks; taken = b .taken };
+        line = b .line;
+        word = b .word;
+        first = under-next law h i ∙ b .first;
+      }
 
-  -- the message that is told so asks that order
-  pub began : (i : ℕ) → given h i .told ≡ told.Accepted → (o : Order) × Asks (h i) o × (under h i ≡ Nothing) × (under h (suc i) ≡ Waits o)
-  began i t = go (effect-at h i)
-    where
-      one : concerns (given h i .told) ≡ 1
-      one = ap concerns t
+  -- an order on line k that has no outcome is the one under way
+  pub record Held (k i : ℕ) (w : Query) (n : ℕ) : Type 0 where
+    pub begun : Begun k i w
+    pub waits : under law h n ≡ Waits (begun .o)
 
-      go : Effect (boxAt h i) (h i) → (o : Order) × Asks (h i) o × (under h i ≡ Nothing) × (under h (suc i) ≡ Waits o)
-      go (begins o was is ask t) = (o, ask, was, under-next h i ∙ is)
-      go (stays same z u) = absurd (omega (arith, one))
-      go (finishes o r n was is op t w) = let two = ap concerns t in absurd (omega (arith, one))
+  pub held : {k : ℕ} → Four k → (n : ℕ) (u : UnderWay (sight (E law h k)) n) → Held k (u .i) (u .w) n
+  held {k} f n u =
+      let b = order-on f (u .i) (u .w) (u .accepted .asked) in
+      record {
+        begun = b;
+        waits = track law h (u .i) (b .o) (b .first) n (u .before) (subst (λ (l : ℕ). Never (S law h l) ends (u .i) n) (sym (b .line)) (u .waiting));
+      }
 
   -- a message asks one order
-  pub one-order : (o p : Order) {i : Input} → Asks i o → Asks i p → p ≡ o
-  one-order o p {i} a b =
-      let c : message (a .bytes) (a .room) ≡ message (b .bytes) (b .room) = sym (a .came) ∙ b .came in
+  one-order : (o p : Order) (x : Input) → AsksFor W o x → AsksFor W p x → p ≡ o
+  one-order o p x a b =
+      let c : message (a .bytes) (a .brings .room) ≡ message (b .bytes) (b .brings .room) = sym (a .brings .is) ∙ b .brings .is in
       let d : a .bytes ≡ b .bytes = cc in
-      let q : reading.Accepted p ≡ reading.Accepted o = sym (b .reads) ∙ ap requestOf (sym d) ∙ a .reads in
+      let q : reading.Accepted p ≡ reading.Accepted o = sym (b .reads) ∙ ap (W .reads) (sym d) ∙ a .reads in
       cc
 
-  pub order-on : (k i : ℕ) (w : Question) → E h k i ≡ line.order w → Begun k i w
-  order-on k i w e = go (h i) refl e
-    where
-      go : (x : Input) → h i ≡ x → eventOn k x (given h i .told) ≡ line.order w → Begun k i w
-      go (tick n) is e = absurd (not-tick (leb 16 n) e)
-        where
-          not-tick : (b : Bool) → cond b line.tick line.pass ≡ line.order w → ⊥
-          not-tick true e = clash cc
-          not-tick false e = clash cc
-      go (thermostat l f) is e = absurd (not-frame (eqb l k) e)
-        where
-          not-frame : (b : Bool) → cond b (line.thermostat f) line.pass ≡ line.order w → ⊥
-          not-frame true e = clash cc
-          not-frame false e = clash cc
-      go (boiler l f n) is e = absurd (not-frame (leb 16 n) (eqb l k) e)
-        where
-          not-frame : (a b : Bool) → cond a (cond b (line.boiler f) line.pass) line.pass ≡ line.order w → ⊥
-          not-frame true true e = clash cc
-          not-frame true false e = clash cc
-          not-frame false b e = clash cc
-      go (message b n) is e = read (requestOf b) refl e
-        where
-          read : (r : Reading) → requestOf b ≡ r → orderOn k r (given h i .told) ≡ line.order w → Begun k i w
-          read (reading.Silent x) q e = clash cc
-          read (reading.AtOnce x) q e = clash cc
-          read (reading.Accepted o) q e = on (taken (given h i .told) && eqb (o .line) k) refl e
-            where
-              on : (x : Bool) → (taken (given h i .told) && eqb (o .line) k) ≡ x → cond x (line.order (questionOf o)) line.pass ≡ line.order w →
-                  Begun k i w
-              on true p e =
-                  let parts = both (taken (given h i .told)) (eqb (o .line) k) p in
-                  let t = taken-told (given h i .told) (parts .0) in
-                  let a = began i t in
-                  let mine : Asks (h i) o = record {
-                    bytes = b;
-                    room = room-of (a .1);
-                    came = is ∙ ap (message b) (room-is (a .1));
-                    enough = a .1 .enough;
-                    reads = q;
-                  } in
-                  let same : a .0 ≡ o = one-order o (a .0) mine (a .1) in
-                  record {
-                    o = o;
-                    asks = mine;
-                    taken = t;
-                    line = eqb-true (o .line) k (parts .1);
-                    word = cc;
-                    first = a .3 ∙ ap Waits same;
-                  }
-                where
-                  room-of : {p : Order} → Asks (h i) p → ℕ
-                  room-of a = a .room
+  -- an accepted message's line accepts its order
+  pub record Taken (i : ℕ) (o : Order) : Type 0 where
+    pub unit : Four (o .line)
+    pub free : under law h i ≡ Nothing
+    pub first : under law h (suc i) ≡ Waits o
+    pub there : Accepted (sight (E law h (o .line))) i (questionOf o)
 
-                  room-is : {p : Order} (a : Asks (h i) p) → n ≡ a .room
-                  room-is a = let c : message b n ≡ message (a .bytes) (a .room) = sym is ∙ a .came in cc
-              on false p e = clash cc
+  pub taken-on : (i : ℕ) (o : Order) → Accepted (seen law h) i o → Taken i o
+  taken-on i o acc = go (effect-at law h i)
+    where
+      unit : Four (o .line)
+      unit = unit-of law o (h i) (acc .asked)
+
+      asked : E law h (o .line) i ≡ line.order (questionOf o)
+      asked =
+          ap (λ (t : BoxNote). eventOn W (o .line) (h i) t) (acc .taken) ∙ order-seen W (o .line) (h i) o (acc .asked)
+          ∙ ap (λ (b : Bool). cond b (line.order (questionOf o)) line.pass) (eq-eqb (o .line) (o .line) refl)
+
+      -- no line of the box is asked twice
+      busy : under law h i ≡ Nothing → UnderWay (sight (E law h (o .line))) i → ⊥
+      busy free u = let b = held unit i u in let e : Nothing ≡ Waits (b .begun .o) = sym free ∙ b .waits in clash cc
+
+      go : Effect W (boxAt W h i) (h i) (next W (boxAt W h i) (h i)) (given W h i) → Taken i o
+      go (begins p was is ask t) = record {
+        unit = unit;
+        free = was;
+        first = under-next law h i ∙ is ∙ ap Waits (one-order o p (h i) (acc .asked) ask);
+        there = record {
+          asked = asked;
+          taken = ⊎-elim (λ e. e) (λ d. absurd (busy was (d .0))) (on-line law h (o .line) .ready i (questionOf o) asked);
+        };
+      }
+      go (stays same z u) = let one = ap concernOf (acc .taken) in clash cc
+      go (finishes p r n was is op t w) = let tk = acc .taken in clash cc

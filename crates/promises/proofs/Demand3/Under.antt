@@ -1,45 +1,64 @@
 -- The order under way, followed through a history: from its acceptance it stays until its own line gives the outcome.
 -- Assumes nothing.
 use Prim.Native.Nat.{ℕ, zero, suc, _<_}
-use mathlib.Core.Path.{_≡_, sym, ap, _∙_, subst, refl}
-use mathlib.Core.Logic.{_⊎_, inl, inr}
+use mathlib.Core.Path.{_≡_, refl, sym, ap, _∙_, subst}
+use mathlib.Core.Logic.{_⊎_, inl, inr, ⊎-elim}
 use native.Mathlib.Omega.{arith}
 use Rattle.word.proofs.Clash.{clash}
 use Rattle.turns.specs.Events.{Events, Notes, about, ends, Never}
-use Rattle.turns.specs.Promise as promise
-use Rattle.turns.specs.History.{notes, Own}
+use Rattle.turns.specs.Events as line
+use Rattle.turns.specs.Promise.{View, Demand3, UnderWay}
+use Rattle.turns.specs.History.{notes, sight}
 use Rattle.turns.proofs.Clock.{last-or}
 use Rattle.turns.proofs.Demand3.{demand3}
 use Rattle.modbus.specs.declared.Order.{Order}
+use Rattle.modbus.specs.declared.Reply.{Reply}
+use Rattle.modbus.specs.Wrapping.{Wrapping, Lawful}
 use Rattle.promises.specs.declared.Asked.{Asked}
 use Rattle.promises.specs.declared.Asked.the-variants.{Nothing, Waits}
 use Rattle.promises.specs.declared.Settled.the-variants.{Came}
-use Rattle.promises.specs.Settle.{settledOf}
+use Rattle.promises.specs.Notes.{nothing, concernOf}
+use Rattle.promises.specs.Parts.{partIn}
+use Rattle.promises.specs.Settle.{settledIn}
 use Rattle.promises.specs.Inputs.{Inputs}
 use Rattle.promises.specs.History.{next, boxAt, given}
 use Rattle.promises.specs.Projection.{eventsOn}
-use Rattle.promises.proofs.Projection.Project.{saidTo, note-is}
-use Rattle.promises.proofs.Demand3.Effects.{concerns, Effect, begins, stays, finishes}
-use Rattle.promises.proofs.Demand3.Orders.{named-at, effect-at}
-use Rattle.promises.proofs.Demand3.Ends.{came-ends}
+use Rattle.promises.specs.Demand3.{boxView}
+use Rattle.promises.proofs.Projection.Project.{noteAt, note-is}
+use Rattle.promises.proofs.Demand3.Effects.{settledBy, Effect, begins, stays, finishes, named-at, effect-at}
 
-module _ (h : Inputs) where
-  -- the events and notes of line k
+-- what settles an order is a note of its outcome
+came-ends : (o : Order) (s : line.Note) (r : Reply) (n : ℕ) → settledIn o (partIn s) ≡ Came r n → about s ≡ ends
+came-ends o line.nothing r n e = clash cc
+came-ends o line.held r n e = clash cc
+came-ends o (line.sent t f) r n e = clash cc
+came-ends o (line.passed f) r n e = clash cc
+came-ends o line.dropped r n e = clash cc
+came-ends o line.accepted r n e = clash cc
+came-ends o (line.exception m) r n e = clash cc
+came-ends o (line.answer f m) r n e = refl
+came-ends o (line.no-answer m) r n e = refl
+came-ends o (line.refused m) r n e = clash cc
+
+module _ {W : Wrapping} (law : Lawful W) (h : Inputs) where
+  -- what can be seen of the box; the events and notes of line k, and demand 3 for it, on its own history
+  abbrev pub seen : View Order
+  seen = boxView W h (given W h)
+
   abbrev pub E : ℕ → Events
-  E k = eventsOn k h (given h)
+  E k = eventsOn W k h (given W h)
 
   abbrev pub S : ℕ → Notes
   S k = notes (E k)
 
-  -- demand 3 for line k, on its own history
-  pub on-line : (k : ℕ) → promise.Demand3 1950 Own (E k) (S k)
+  pub on-line : (k : ℕ) → Demand3 1950 (sight (E k))
   on-line k = demand3 (E k)
 
   -- the order under way before input n
   abbrev pub under : ℕ → Asked
-  under n = boxAt h n .asked
+  under n = boxAt W h n .asked
 
-  pub under-next : (n : ℕ) → under (suc n) ≡ next (boxAt h n) (h n) .asked
+  pub under-next : (n : ℕ) → under (suc n) ≡ next W (boxAt W h n) (h n) .asked
   unfolding boxAt
   under-next n = refl
 
@@ -50,19 +69,21 @@ module _ (h : Inputs) where
 
   pub record Keeps (n : ℕ) (o : Order) : Type 0 where
     pub still : under (suc n) ≡ Waits o
-    pub aside : concerns (given h n .told) ≡ 0
+    pub aside : concernOf (given W h n .told) ≡ nothing
 
   keeps : (n : ℕ) (o : Order) → under n ≡ Waits o → (about (S (o .line) n) ≡ ends → ⊥) → Keeps n o
-  keeps n o was off = go (effect-at h n)
+  keeps n o was off = go (effect-at law h n)
     where
-      go : Effect (boxAt h n) (h n) → Keeps n o
+      go : Effect W (boxAt W h n) (h n) (next W (boxAt W h n) (h n)) (given W h n) → Keeps n o
       go (begins p was′ is ask t) = clash (let e : Waits o ≡ Nothing = sym was ∙ was′ in cc)
       go (stays same z u) = record { still = under-next n ∙ same ∙ was; aside = z }
       go (finishes p r w was′ is op t wr) =
           let q : p ≡ o = same-order n o p was was′ in
-          let e : settledOf o (saidTo (boxAt h n) (o .line) (h n)) ≡ Came r w =
-          subst (λ (x : Order). settledOf x (saidTo (boxAt h n) (x .line) (h n)) ≡ Came r w) q op in
-          absurd (off (ap about (note-is h (named-at h n o was) n) ∙ came-ends o (saidTo (boxAt h n) (o .line) (h n)) r w e))
+          let e : settledBy W (boxAt W h n) (h n) (given W h n .told) o ≡ Came r w =
+          subst (λ (x : Order). settledBy W (boxAt W h n) (h n) (given W h n .told) x ≡ Came r w) q op in
+          absurd
+          (off
+          (ap about (note-is W h (named-at law h n o was) n) ∙ came-ends o (noteAt W (boxAt W h n) (o .line) (h n) (given W h n .told)) r w e))
 
   -- from acceptance on, as long as its line gives no outcome, the order is under way
   pub track : (i : ℕ) (o : Order) → under (suc i) ≡ Waits o → (n : ℕ) → i < n → Never (S (o .line)) ends i n → under n ≡ Waits o
@@ -75,5 +96,44 @@ module _ (h : Inputs) where
 
   -- and nothing is told of an outcome or of another order
   pub quiet : (i : ℕ) (o : Order) → under (suc i) ≡ Waits o → (n : ℕ) → Never (S (o .line)) ends i n → (m : ℕ) → i < m → m < n →
-      concerns (given h m .told) ≡ 0
+      concernOf (given W h m .told) ≡ nothing
   quiet i o first n nev m lo hi = keeps m o (track i o first m lo (λ x l g on. nev x l (omega arith) on)) (λ on. nev m lo hi on) .aside
+
+  -- where the order under way comes from
+  pub record From (n : ℕ) (o : Order) : Type 0 where
+    pub way : UnderWay seen n
+    pub is : way .w ≡ o
+
+  pub source : (n : ℕ) (o : Order) → under n ≡ Waits o → From n o
+  unfolding boxAt
+  source zero o e = clash (let z : Nothing ≡ Waits o = e in cc)
+  source (suc m) o e = go (effect-at law h m) (source m)
+    where
+      now-is : next W (boxAt W h m) (h m) .asked ≡ Waits o
+      now-is = sym (under-next m) ∙ e
+
+      go : Effect W (boxAt W h m) (h m) (next W (boxAt W h m) (h m)) (given W h m) → ((p : Order) → under m ≡ Waits p → From m p) → From (suc m) o
+      go (begins p was is ask tl) before =
+          record {
+            way = record { i = m; w = p; before = omega arith; accepted = record { asked = ask; taken = tl }; waiting = λ x lo hi t. omega arith };
+            is = let z : Waits p ≡ Waits o = sym is ∙ now-is in cc;
+          }
+      go (stays same z u) before =
+          let b = before o (sym same ∙ now-is) in
+          record {
+            way = record {
+              i = b .way .i;
+              w = b .way .w;
+              before = omega (arith, b .way .before);
+              accepted = b .way .accepted;
+              waiting = λ x lo hi t.
+                  ⊎-elim (λ l. b .way .waiting x lo l t)
+                  (λ is.
+                  let two = ap concernOf (t .2) in
+                  let z′ : concernOf (given W h x .told) ≡ nothing = subst (λ (y : ℕ). concernOf (given W h y .told) ≡ nothing) (sym is) z in
+                  clash cc)
+                  (last-or x m hi);
+            };
+            is = b .is;
+          }
+      go (finishes p r n was is op tl wr) before = clash (let z : Nothing ≡ Waits o = sym is ∙ now-is in cc)

@@ -4,7 +4,7 @@ use mathlib.Core.Path.{sym, ap, _∙_}
 use Prim.Native.Nat.{ℕ}
 use borrow.Author.Needs.{needs}
 use Rattle.word.specs.Frame.{builtOf}
-use Rattle.modbus.proofs.Questions.{never-refused}
+use Rattle.modbus.proofs.Questions.{is-word, never-refused}
 use Rattle.questions.proofs.word_of.Statement.{statement}
 use Rattle.questions.proofs.word_of.Tie as tie
 
@@ -23,8 +23,9 @@ enum-told c = search needs
 returns : tie.Need-returns
 returns c =
     let q = c .before .before .before .before .before .args .q in
-    sym (c .before .w .given .1) ∙ c .before .before .before .build .ensures
-    ∙ ap (λ (n : ℕ). builtOf n (q .id) (q .value)) (c .before .before .before .before .type-number .ensures)
+    is-word _ q
+    (sym (c .before .w .given .1) ∙ c .before .before .before .build .ensures
+    ∙ ap (λ (n : ℕ). builtOf n (q .id) (q .value)) (c .before .before .before .before .type-number .ensures))
 
 returns-2 : tie.Need-returns-2
 returns-2 c =

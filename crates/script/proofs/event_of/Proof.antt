@@ -7,7 +7,7 @@ use Prim.Native.Nat.{_-_}
 use native.Mathlib.Omega.{arith}
 use borrow.Author.Needs.{needs}
 use lib.ListN.{length, take, drop}
-use Rattle.script.specs.Lines.{modbus, messageOf, readOf}
+use Rattle.script.specs.Lines.{modbus, messageLine, scriptLine}
 use Rattle.script.proofs.Fields.{part, long}
 use Rattle.script.proofs.Said.{with-bytes, without}
 use Rattle.script.proofs.event_of.Statement.{statement}
@@ -43,10 +43,10 @@ returns c =
     let a = c .before .before .before .before .before .before .before .before .before .before .args in
     let s = now (a .line) in
     let m = c .before .before .message in
-    let e : readOf (length (now (a .bytes))) s ≡ messageOf (length (now (a .bytes))) (take (length s - 7) (drop 7 s)) =
+    let e : scriptLine (length (now (a .bytes))) s ≡ messageLine (length (now (a .bytes))) (take (length s - 7) (drop 7 s)) =
     with-bytes (length (now (a .bytes))) s
     (sym (c .before .before .before .before .before .before .begins .ensures) ∙ c .before .before .before .before .before .if1 .taken)
-    ∙ ap (messageOf (length (now (a .bytes)))) (sym (part 7 s)) in
+    ∙ ap (messageLine (length (now (a .bytes)))) (sym (part 7 s)) in
     (rw e (m .ensures .0), rw e (m .ensures .1))
 
 plain-requires : tie.Need-plain-requires

@@ -7,8 +7,8 @@ use native.Mathlib.Omega.{arith}
 use borrow.Author.Needs.{needs}
 use lib.ListN.{take, drop, drop-of-length-le}
 use lib.Seq.{length-take-le}
-use Rattle.script.specs.Digits.{wordOf}
-use Rattle.script.specs.Lines.{frameOf}
+use Rattle.script.specs.Digits.{hexWordOf}
+use Rattle.script.specs.Lines.{frameLine}
 use Rattle.script.proofs.Fields.{part}
 use Rattle.script.proofs.Numbers.{at-most}
 use Rattle.script.proofs.frame.Statement.{statement}
@@ -30,11 +30,11 @@ enum-told : tie.Need-enum-told
 enum-told c = search needs
 
 returns : tie.Need-returns
-unfolding frameOf
+unfolding frameLine
 returns c = rw (← c .before .before .before .before .field-end .ensures .0, ← c .before .before .number-of .ensures, c .enum-told .given .1)
 
 returns-2 : tie.Need-returns-2
-unfolding frameOf wordOf
+unfolding frameLine hexWordOf
 returns-2 c =
     let d = c .before .before .before .before .before .before in
     let s = d .before .before .args .s .now in
@@ -68,11 +68,11 @@ enum-told-2 : tie.Need-enum-told-2
 enum-told-2 c = search needs
 
 returns-3 : tie.Need-returns-3
-unfolding frameOf
+unfolding frameLine
 returns-3 c =
     let d = c .before .before .before .before .before .before in
     let end = d .before .before .before .before .field-end .result in
-    let behind = c .before .before .word .ensures ∙ ap wordOf (part (end + 1) (d .before .before .before .before .before .before .args .s .now)) in
+    let behind = c .before .before .word .ensures ∙ ap hexWordOf (part (end + 1) (d .before .before .before .before .before .before .args .s .now)) in
     rw (
       ← d .before .before .before .before .field-end .ensures .0,
       ← d .before .before .number-of .ensures,
@@ -93,12 +93,12 @@ from-requires : tie.Need-from-requires
 from-requires c κs = search needs
 
 returns-4 : tie.Need-returns-4
-unfolding frameOf
+unfolding frameLine
 returns-4 c =
     let d = c .before .before .before .before .before .before in
     let e = d .before .before .before .before .before .before in
     let end = e .field-end .result in
-    let behind = c .before .before .before .before .word .ensures ∙ ap wordOf (part (end + 1) (e .before .before .args .s .now)) in
+    let behind = c .before .before .before .before .word .ensures ∙ ap hexWordOf (part (end + 1) (e .before .before .args .s .now)) in
     rw (
       ← e .field-end .ensures .0,
       ← d .before .before .before .before .number-of .ensures,

@@ -5,13 +5,13 @@ use mathlib.Core.Bool.{true, false, and-false}
 use native.Mathlib.Omega.{arith}
 use borrow.Author.Needs.{needs}
 use borrow.Author.Tests.{eq-eqb, ne-eqb}
-use Rattle.script.specs.Lines.{tick, thermostat, boiler, room, ticksOf, roomOf, frameOf, plainOf}
+use Rattle.script.specs.Lines.{tick, thermostat, boiler, room, tickLine, roomLine, frameLine, plainLine}
 use Rattle.script.proofs.Fields.{part, long}
 use Rattle.script.proofs.plain.Statement.{statement}
 use Rattle.script.proofs.plain.Tie as tie
 
 returns : tie.Need-returns
-unfolding plainOf
+unfolding plainLine
 returns c = rw (eq-eqb _ _ (c .if1 .taken))
 
 slice-aggregate-begins : tie.Need-slice-aggregate-begins
@@ -21,7 +21,7 @@ begins-requires : tie.Need-begins-requires
 begins-requires c κs = search needs
 
 returns-2 : tie.Need-returns-2
-unfolding plainOf
+unfolding plainLine
 returns-2 c =
     rw (
       ne-eqb _ _ (c .before .before .before .if1 .left),
@@ -54,7 +54,7 @@ ticks-requires : tie.Need-ticks-requires
 ticks-requires c κs = search needs
 
 returns-3 : tie.Need-returns-3
-unfolding plainOf
+unfolding plainLine
 returns-3 c =
     rw (
       ne-eqb _ _ (c .before .before .before .before .before .before .before .before .if1 .left),
@@ -62,7 +62,7 @@ returns-3 c =
       c .before .before .before .before .before .if2 .left,
       ← c .before .before .before .begins2 .ensures,
       c .before .before .if3 .taken,
-    ) (c .ticks .ensures ∙ ap ticksOf (part 5 (c .before .before .before .before .before .before .before .before .before .before .args .line .now)))
+    ) (c .ticks .ensures ∙ ap tickLine (part 5 (c .before .before .before .before .before .before .before .before .before .before .args .line .now)))
 
 slice-aggregate-begins-3 : tie.Need-slice-aggregate-begins-3
 slice-aggregate-begins-3 c = search needs
@@ -89,7 +89,7 @@ frame-requires : tie.Need-frame-requires
 frame-requires c κs = search needs
 
 returns-4 : tie.Need-returns-4
-unfolding plainOf
+unfolding plainLine
 returns-4 c =
     let d = c .before .before .before .before .before .before .before .before in
     rw (
@@ -100,7 +100,7 @@ returns-4 c =
       c .before .before .before .before .before .if3 .left,
       ← c .before .before .before .begins3 .ensures,
       c .before .before .if4 .taken,
-    ) (c .frame .ensures ∙ ap (frameOf false) (part 11 (d .before .before .before .before .before .args .line .now)))
+    ) (c .frame .ensures ∙ ap (frameLine false) (part 11 (d .before .before .before .before .before .args .line .now)))
 
 slice-aggregate-begins-4 : tie.Need-slice-aggregate-begins-4
 slice-aggregate-begins-4 c = search needs
@@ -127,7 +127,7 @@ frame-requires-2 : tie.Need-frame-requires-2
 frame-requires-2 c κs = search needs
 
 returns-5 : tie.Need-returns-5
-unfolding plainOf
+unfolding plainLine
 returns-5 c =
     let d = c .before .before .before .before .before .before .before .before in
     rw (
@@ -140,7 +140,7 @@ returns-5 c =
       c .before .before .before .before .before .if4 .left,
       ← c .before .before .before .begins4 .ensures,
       c .before .before .if5 .taken,
-    ) (c .frame2 .ensures ∙ ap (frameOf true) (part 7 (d .before .before .before .before .before .before .before .before .args .line .now)))
+    ) (c .frame2 .ensures ∙ ap (frameLine true) (part 7 (d .before .before .before .before .before .before .before .before .args .line .now)))
 
 slice-aggregate-begins-5 : tie.Need-slice-aggregate-begins-5
 slice-aggregate-begins-5 c = search needs
@@ -169,7 +169,7 @@ room-requires : tie.Need-room-requires
 room-requires c κs = search needs
 
 returns-6 : tie.Need-returns-6
-unfolding plainOf
+unfolding plainLine
 returns-6 c =
     let d = c .before .before .before .before .before .before .before .before in
     rw (
@@ -184,13 +184,13 @@ returns-6 c =
       c .before .before .before .before .before .if5 .left,
       ← c .before .before .before .begins5 .ensures,
       c .before .before .if6 .taken,
-    ) (c .room .ensures ∙ ap roomOf (part 5 (d .before .before .before .before .before .before .before .before .before .before .before .args .line .now)))
+    ) (c .room .ensures ∙ ap roomLine (part 5 (d .before .before .before .before .before .before .before .before .before .before .before .args .line .now)))
 
 alone-requires : tie.Need-alone-requires
 alone-requires c κs = search needs
 
 returns-7 : tie.Need-returns-7
-unfolding plainOf
+unfolding plainLine
 returns-7 c =
     rw (
       ne-eqb _ _ (c .before .before .before .before .before .before .before .before .before .before .before .before .before .before .before .before .if1 .left),

@@ -1,7 +1,7 @@
 -- `script::room` meets its contract: the number of the field, or none.
 -- Assumes nothing.
 use borrow.Author.Needs.{needs}
-use Rattle.script.specs.Lines.{roomOf}
+use Rattle.script.specs.Lines.{roomLine}
 use Rattle.script.proofs.room.Statement.{statement}
 use Rattle.script.proofs.room.Tie as tie
 
@@ -15,14 +15,14 @@ enum-told : tie.Need-enum-told
 enum-told c = search needs
 
 returns : tie.Need-returns
-unfolding roomOf
+unfolding roomLine
 returns c = rw (← c .before .before .number-of .ensures, c .enum-told .given .1)
 
 cast-t4 : tie.Need-cast-t4
 cast-t4 c = search needs
 
 returns-2 : tie.Need-returns-2
-unfolding roomOf
+unfolding roomLine
 returns-2 c = rw (← c .before .before .before .number-of .ensures, c .before .n .given .1)
 
 pub room-spec : {M : Type 1} → statement M

@@ -9,14 +9,14 @@ use borrow.Author.Tests.{eq-eqb, ne-eqb, not-true, not-false}
 use lib.ListN.{replicate}
 use Rattle.places.specs.Bytes.{wordAt}
 use Rattle.script.specs.declared.Hex.the-variants.{Word}
-use Rattle.script.specs.Digits.{fits, wordOf}
+use Rattle.script.specs.Digits.{fits, hexWordOf}
 use Rattle.script.specs.Lines.{placed}
 use Rattle.script.proofs.Bytes.{fitting-all, filled}
 use Rattle.script.proofs.word.Statement.{statement}
 use Rattle.script.proofs.word.Tie as tie
 
 returns : tie.Need-returns
-unfolding wordOf
+unfolding hexWordOf
 returns c = rw (ne-eqb _ _ (c .if1 .taken))
 
 slice-aggregate-pairs : tie.Need-slice-aggregate-pairs
@@ -26,7 +26,7 @@ pairs-requires : tie.Need-pairs-requires
 pairs-requires c κs = search needs
 
 returns-2 : tie.Need-returns-2
-unfolding wordOf
+unfolding hexWordOf
 returns-2 c =
     let s = c .before .before .before .before .before .before .args .s .now in
     let e : fits 4 s ≡ false = sym (c .before .before .pairs .ensures .0) ∙ not-true _ (c .if2 .taken) in
@@ -39,7 +39,7 @@ word-at-requires : tie.Need-word-at-requires
 word-at-requires c κs = search needs
 
 returns-3 : tie.Need-returns-3
-unfolding wordOf
+unfolding hexWordOf
 returns-3 c =
     let s = c .before .before .before .before .before .before .before .before .args .s .now in
     let e : fits 4 s ≡ true = sym (c .before .before .before .before .pairs .ensures .0) ∙ not-false _ (c .before .before .if2 .left) in

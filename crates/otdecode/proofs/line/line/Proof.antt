@@ -3,7 +3,7 @@
 use borrow.Author.Needs.{needs}
 use Rattle.text.specs.Text.{puts}
 use Rattle.text.proofs.Puts.{puts-append, puts-last}
-use Rattle.otdecode.specs.Lines.{lineOf}
+use Rattle.otdecode.specs.Lines.{shownOf}
 use Rattle.otdecode.proofs.line.line.Statement.{statement}
 use Rattle.otdecode.proofs.line.line.Tie as tie
 
@@ -59,11 +59,11 @@ push-requires-2 : tie.Need-push-requires-2
 push-requires-2 c κs = search needs
 
 returns : tie.Need-returns
-unfolding lineOf puts
+unfolding shownOf puts
 returns c = rw (c .before .enum-told .given .1) (c .empty .ensures)
 
 returns-2 : tie.Need-returns-2
-unfolding lineOf
+unfolding shownOf
 returns-2 c = rw (
   c .before .before .before .before .before .before .before .answer .given .1,
   puts-append,
@@ -76,7 +76,7 @@ returns-2 c = rw (
 ) (c .push .ensures)
 
 returns-3 : tie.Need-returns-3
-unfolding lineOf
+unfolding shownOf
 returns-3 c = rw (
   c .before .before .before .before .before .before .before .answer2 .given .1,
   puts-append,

@@ -2,7 +2,7 @@
 -- Assumes nothing.
 use borrow.Author.Needs.{needs}
 use Rattle.text.proofs.Puts.{puts-field, puts-last}
-use Rattle.otlist.specs.Listing.{fieldsOf}
+use Rattle.otlist.specs.Listing.{listedFields}
 use Rattle.otlist.proofs.listing.fields.Statement.{statement}
 use Rattle.otlist.proofs.listing.fields.Tie as tie
 
@@ -58,7 +58,7 @@ push-requires-5 : tie.Need-push-requires-5
 push-requires-5 c κs = search needs
 
 returns : tie.Need-returns
-unfolding fieldsOf
+unfolding listedFields
 returns c = rw (
   puts-field,
   puts-field,

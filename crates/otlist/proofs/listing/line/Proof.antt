@@ -1,7 +1,7 @@
 -- `otlist::listing::line` meets its contract: the fields of an even word, and the one line for an odd one.
 -- Assumes nothing.
 use borrow.Author.Needs.{needs}
-use Rattle.otlist.specs.Listing.{lineOf}
+use Rattle.otlist.specs.Listing.{listedOf}
 use Rattle.otlist.proofs.listing.line.Statement.{statement}
 use Rattle.otlist.proofs.listing.line.Tie as tie
 
@@ -24,11 +24,11 @@ put-requires : tie.Need-put-requires
 put-requires c κs = search needs
 
 returns : tie.Need-returns
-unfolding lineOf
+unfolding listedOf
 returns c = rw (← c .before .before .before .even .ensures, c .before .before .if1 .taken) (cc)
 
 returns-2 : tie.Need-returns-2
-unfolding lineOf
+unfolding listedOf
 returns-2 c = rw (← c .before .before .before .before .even .ensures, c .before .before .before .if1 .left) (cc)
 
 pub line-spec : {M : Type 1} → statement M

@@ -3,7 +3,7 @@
 use borrow.Author.Needs.{needs}
 use borrow.Author.Tests.{ne-eqb}
 use Rattle.text.proofs.Puts.{puts-field}
-use Rattle.otlist.specs.Listing.{numbersOf}
+use Rattle.otlist.specs.Listing.{listedNumbers}
 use Rattle.otlist.proofs.listing.numbers.Statement.{statement}
 use Rattle.otlist.proofs.listing.numbers.Tie as tie
 
@@ -47,23 +47,23 @@ decimal-requires-3 : tie.Need-decimal-requires-3
 decimal-requires-3 c κs = search needs
 
 returns : tie.Need-returns
-unfolding numbersOf
+unfolding listedNumbers
 returns c = rw (c .before .match .keys1) (c .signed .ensures)
 
 returns-2 : tie.Need-returns-2
-unfolding numbersOf
+unfolding listedNumbers
 returns-2 c = rw (c .before .match .keys2) (c .signed2 .ensures)
 
 returns-3 : tie.Need-returns-3
-unfolding numbersOf
+unfolding listedNumbers
 returns-3 c = rw (c .before .before .before .match .keys3, puts-field) (cc)
 
 returns-4 : tie.Need-returns-4
-unfolding numbersOf
+unfolding listedNumbers
 returns-4 c = rw (c .before .before .before .match .keys4, puts-field) (cc)
 
 returns-5 : tie.Need-returns-5
-unfolding numbersOf
+unfolding listedNumbers
 returns-5 c =
     let r = c .before .match .rest in
     rw (ne-eqb _ _ (r .0 .0 .0 .1), ne-eqb _ _ (r .0 .0 .1), ne-eqb _ _ (r .0 .1), ne-eqb _ _ (r .1)) (c .decimal3 .ensures)

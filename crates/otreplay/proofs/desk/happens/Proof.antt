@@ -34,6 +34,9 @@ play-requires c κs = search needs
 same-length : tie.Need-same-length
 same-length c = search needs
 
+same-length-2 : tie.Need-same-length-2
+same-length-2 c = search needs
+
 returns : tie.Need-returns
 returns c = search needs
 
@@ -50,4 +53,5 @@ happens-spec =
     slice-aggregate-play
     play-requires
     same-length
+    same-length-2
     returns)

@@ -1,73 +1,104 @@
--- `replies::body::put` meets its contract. The invariant: the bytes passed stand in front of what the room had behind them.
+-- `replies::body::put` meets its contract: an arm for each kind of reply.
 -- Assumes nothing.
-use mathlib.Core.Path.{_≡_, refl, sym, ap, ap₂, _∙_}
-use mathlib.Core.List.{List}
-use Prim.Native.Nat.{ℕ, _≤_, _-_}
-use native.Mathlib.Omega.{arith}
-use native.Mathlib.Nat.{zero-add}
-use native.Mathlib.Numerals.{add-one}
-use lib.ListN.{length, getD, set, length-set}
-use lib.Seq.{paste, paste-zero, paste-suc}
-use denote.Ref.{now}
 use borrow.Author.Needs.{needs}
-use Rattle.modbus.proofs.Place.{pasted}
+use Rattle.modbus.specs.Wire.{bodyOf}
 use Rattle.replies.proofs.body.put.Statement.{statement}
 use Rattle.replies.proofs.body.put.Tie as tie
 
-abbrev Inv-loop : tie.InvT-loop
-Inv-loop src room₀ i₀ room i = (i ≤ length src) × (room ≡ paste room₀ 0 src i) × (length room ≡ length room₀)
+enum-known-r : tie.Need-enum-known-r
+enum-known-r c = search needs
 
-abbrev μ-loop : tie.MeasureT-loop
-μ-loop src room₀ i₀ room i = length src - i
+add-three : tie.Need-add-three
+add-three c = search needs
 
-loop-holds : tie.Need-loop-holds Inv-loop μ-loop
-loop-holds c = (omega arith, paste-zero (now (c .args .room)) 0 (now (c .args .src)), refl)
+three-requires : tie.Need-three-requires
+three-requires c κs = search needs
 
-shared-slice-read-room : tie.Need-shared-slice-read-room Inv-loop μ-loop
-shared-slice-read-room c = search needs
+enum-known-r-2 : tie.Need-enum-known-r-2
+enum-known-r-2 c = search needs
 
-slice-write-room : tie.Need-slice-write-room Inv-loop μ-loop
-slice-write-room c = omega arith
+five-requires : tie.Need-five-requires
+five-requires c κs = search needs
 
-add-i : tie.Need-add-i Inv-loop μ-loop
-add-i c = omega arith
+enum-known-r-3 : tie.Need-enum-known-r-3
+enum-known-r-3 c = search needs
 
-loop-less : tie.Need-loop-less Inv-loop μ-loop
-loop-less c = omega arith
+six-requires : tie.Need-six-requires
+six-requires c κs = search needs
 
-loop-again : tie.Need-loop-again Inv-loop μ-loop
-loop-again c =
-    let l = c .before .before in
-    let a = l .before .args in
-    let i = l .loop .i in (
-      omega arith,
-      ap₂ (λ (r : List ℕ) (k : ℕ). set r k (getD (now (a .src)) i 0)) (l .loop .inv .1) (sym (zero-add i))
-          ∙ paste-suc (now (a .room)) 0 (now (a .src)) i 0 (omega (arith, zero-add i)) (omega arith)
-          ∙ ap (paste (now (a .room)) 0 (now (a .src))) (sym (add-one i)),
-      length-set (l .loop .room) i (getD (now (a .src)) i 0) ∙ l .loop .inv .2,
-    )
+enum-known-r-4 : tie.Need-enum-known-r-4
+enum-known-r-4 c = search needs
 
-same-length : tie.Need-same-length Inv-loop μ-loop
-same-length c = c .before .loop .inv .2
+three-requires-2 : tie.Need-three-requires-2
+three-requires-2 c κs = search needs
 
-returns : tie.Need-returns Inv-loop μ-loop
-returns c =
-    let l = c .before in
-    let a = l .before .args in
-    let e : l .loop .i ≡ length (now (a .src)) = omega arith in
-    l .loop .inv .1 ∙ ap (paste (now (a .room)) 0 (now (a .src))) e ∙ pasted (now (a .src)) (now (a .room))
+enum-known-r-5 : tie.Need-enum-known-r-5
+enum-known-r-5 c = search needs
+
+mul-eight : tie.Need-mul-eight
+mul-eight c = search needs
+
+eight-requires : tie.Need-eight-requires
+eight-requires c κs = search needs
+
+same-length : tie.Need-same-length
+same-length c = search needs
+
+returns : tie.Need-returns
+unfolding bodyOf
+returns c = rw (c .before .before .before .before .before .r .given .1) (c .before .before .three .ensures)
+
+same-length-2 : tie.Need-same-length-2
+same-length-2 c = search needs
+
+returns-2 : tie.Need-returns-2
+unfolding bodyOf
+returns-2 c = rw (c .before .before .before .before .before .r2 .given .1) (c .before .before .five .ensures)
+
+same-length-3 : tie.Need-same-length-3
+same-length-3 c = search needs
+
+returns-3 : tie.Need-returns-3
+unfolding bodyOf
+returns-3 c = rw (c .before .before .before .before .before .r3 .given .1) (c .before .before .six .ensures)
+
+same-length-4 : tie.Need-same-length-4
+same-length-4 c = search needs
+
+returns-4 : tie.Need-returns-4
+unfolding bodyOf
+returns-4 c = rw (c .before .before .before .before .before .r4 .given .1) (c .before .before .three2 .ensures)
+
+same-length-5 : tie.Need-same-length-5
+same-length-5 c = search needs
+
+returns-5 : tie.Need-returns-5
+unfolding bodyOf
+returns-5 c = rw (c .before .before .before .before .before .r5 .given .1) (c .before .before .eight .ensures)
 
 pub put-spec : {M : Type 1} → statement M
 put-spec =
     tie.close
     (tie.spec
-    Inv-loop
-    μ-loop
-    loop-holds
-    shared-slice-read-room
-    slice-write-room
-    add-i
-    loop-less
-    loop-again
+    enum-known-r
+    add-three
+    three-requires
+    enum-known-r-2
+    five-requires
+    enum-known-r-3
+    six-requires
+    enum-known-r-4
+    three-requires-2
+    enum-known-r-5
+    mul-eight
+    eight-requires
     same-length
-    returns)
+    returns
+    same-length-2
+    returns-2
+    same-length-3
+    returns-3
+    same-length-4
+    returns-4
+    same-length-5
+    returns-5)

@@ -7,11 +7,11 @@ use Rattle.requests.proofs.map.order.Tie as tie
 offset-requires : tie.Need-offset-requires
 offset-requires c κs = search needs
 
-cast-t8 : tie.Need-cast-t8
-cast-t8 c = search needs
+cast-t9 : tie.Need-cast-t9
+cast-t9 c = search needs
 
 returns : tie.Need-returns
 returns c = rw (← c .offset .ensures)
 
 pub order-spec : {M : Type 1} → statement M
-order-spec = tie.close (tie.spec offset-requires cast-t8 returns)
+order-spec = tie.close (tie.spec offset-requires cast-t9 returns)

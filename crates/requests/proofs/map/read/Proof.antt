@@ -2,7 +2,7 @@
 -- Assumes nothing.
 use borrow.Author.Tests.{eq-eqb, ne-eqb, le-leb, lt-leb, le-ltb, lt-ltb, not-true, not-false}
 use borrow.Author.Needs.{needs}
-use Rattle.modbus.specs.Mapping.{readOf}
+use Rattle.modbus.specs.Mapping.{bodyRead}
 use Rattle.requests.proofs.map.read.Statement.{statement}
 use Rattle.requests.proofs.map.read.Tie as tie
 
@@ -13,11 +13,11 @@ byte-at-requires-2 : tie.Need-byte-at-requires-2
 byte-at-requires-2 c κs = search needs
 
 returns : tie.Need-returns
-unfolding readOf
+unfolding bodyRead
 returns c = rw (← c .before .before .byte-at .ensures, ← c .before .byte-at2 .ensures, lt-leb _ _ (c .if1 .taken))
 
 returns-2 : tie.Need-returns-2
-unfolding readOf
+unfolding bodyRead
 returns-2 c = rw (
   ← c .before .before .before .byte-at .ensures,
   ← c .before .before .byte-at2 .ensures,
@@ -26,7 +26,7 @@ returns-2 c = rw (
 )
 
 returns-3 : tie.Need-returns-3
-unfolding readOf
+unfolding bodyRead
 returns-3 c = rw (
   ← c .before .before .before .before .byte-at .ensures,
   ← c .before .before .before .byte-at2 .ensures,
@@ -42,7 +42,7 @@ at-once-requires : tie.Need-at-once-requires
 at-once-requires c κs = search needs
 
 returns-4 : tie.Need-returns-4
-unfolding readOf
+unfolding bodyRead
 returns-4 c = rw (
   ← c .before .before .before .before .before .before .before .byte-at .ensures,
   ← c .before .before .before .before .before .before .byte-at2 .ensures,
@@ -61,7 +61,7 @@ at-once-requires-2 : tie.Need-at-once-requires-2
 at-once-requires-2 c κs = search needs
 
 returns-5 : tie.Need-returns-5
-unfolding readOf
+unfolding bodyRead
 returns-5 c = rw (
   ← c .before .before .before .before .before .before .before .before .before .byte-at .ensures,
   ← c .before .before .before .before .before .before .before .before .byte-at2 .ensures,
@@ -82,7 +82,7 @@ own-requires : tie.Need-own-requires
 own-requires c κs = search needs
 
 returns-6 : tie.Need-returns-6
-unfolding readOf
+unfolding bodyRead
 returns-6 c = rw (
   ← c .before .before .before .before .before .before .before .before .before .before .before .byte-at .ensures,
   ← c .before .before .before .before .before .before .before .before .before .before .byte-at2 .ensures,
@@ -105,7 +105,7 @@ mapped-requires : tie.Need-mapped-requires
 mapped-requires c κs = search needs
 
 returns-7 : tie.Need-returns-7
-unfolding readOf
+unfolding bodyRead
 returns-7 c = rw (
   ← c .before .before .before .before .before .before .before .before .before .before .before .byte-at .ensures,
   ← c .before .before .before .before .before .before .before .before .before .before .byte-at2 .ensures,

@@ -5,16 +5,16 @@ use Prim.Native.Nat.{ℕ, _≤_, _-_}
 use native.Mathlib.Omega.{arith}
 use lib.ListN.{drop}
 use borrow.Author.Needs.{needs}
-use Rattle.modbus.specs.Mapping.{firstOf, rows}
+use Rattle.modbus.specs.Mapping.{firstOf, mappingRows}
 use Rattle.modbus.proofs.Lookup.{here, later}
 use Rattle.requests.proofs.rows.find.Statement.{statement}
 use Rattle.requests.proofs.rows.find.Tie as tie
 
 abbrev Inv-loop : tie.InvT-loop
-Inv-loop a i₀ i = (i ≤ 11) × (firstOf (drop i rows) a ≡ firstOf rows a)
+Inv-loop a rows i₀ i = (i ≤ 11) × (firstOf (drop i mappingRows) a ≡ firstOf mappingRows a)
 
 abbrev μ-loop : tie.MeasureT-loop
-μ-loop a i₀ i = 11 - i
+μ-loop a rows i₀ i = 11 - i
 
 loop-holds : tie.Need-loop-holds Inv-loop μ-loop
 loop-holds c = (omega arith, refl)
@@ -32,7 +32,7 @@ returns : tie.Need-returns Inv-loop μ-loop
 returns c =
     let l = c .before .before .before .before in
     let a = l .before .args .a in
-    sym (here rows a (l .loop .i) (omega arith) (sym (c .before .fits2 .ensures) ∙ c .if1 .taken)) ∙ l .loop .inv .1
+    sym (here mappingRows a (l .loop .i) (omega arith) (sym (c .before .fits2 .ensures) ∙ c .if1 .taken)) ∙ l .loop .inv .1
 
 add-i : tie.Need-add-i Inv-loop μ-loop
 add-i c = omega arith
@@ -45,7 +45,7 @@ loop-again c =
     let l = c .before .before .before .before in
     let a = l .before .args .a in (
       omega arith,
-      sym (later rows a (l .loop .i) (omega arith) (sym (c .before .fits2 .ensures) ∙ c .if1 .left)) ∙ l .loop .inv .1,
+      sym (later mappingRows a (l .loop .i) (omega arith) (sym (c .before .fits2 .ensures) ∙ c .if1 .left)) ∙ l .loop .inv .1,
     )
 
 returns-2 : tie.Need-returns-2 Inv-loop μ-loop
@@ -54,7 +54,7 @@ returns-2 c =
     let l = c .before in
     let a = l .before .args .a in
     let e : l .loop .i ≡ 11 = omega arith in
-    ap (λ (n : ℕ). firstOf (drop n rows) a) (sym e) ∙ l .loop .inv .1
+    ap (λ (n : ℕ). firstOf (drop n mappingRows) a) (sym e) ∙ l .loop .inv .1
 
 pub find-spec : {M : Type 1} → statement M
 find-spec =

@@ -10,9 +10,15 @@ returns : tie.Need-returns
 unfolding fitsOf
 returns c = rw (ne-eqb _ _ (c .if1 .taken))
 
+cast-if2 : tie.Need-cast-if2
+cast-if2 c = search needs
+
 returns-2 : tie.Need-returns-2
 unfolding fitsOf
 returns-2 c = rw (eq-eqb _ _ (c .before .before .before .if1 .left), ne-eqb _ _ (c .if2 .taken))
+
+cast-if3 : tie.Need-cast-if3
+cast-if3 c = search needs
 
 returns-3 : tie.Need-returns-3
 unfolding fitsOf
@@ -39,4 +45,4 @@ returns-4 c = rw (
 )
 
 pub fits-spec : {M : Type 1} → statement M
-fits-spec = tie.close (tie.spec returns returns-2 returns-3 offset-requires on-requires returns-4)
+fits-spec = tie.close (tie.spec returns cast-if2 returns-2 cast-if3 returns-3 offset-requires on-requires returns-4)

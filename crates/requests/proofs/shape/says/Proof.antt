@@ -2,7 +2,7 @@
 -- Assumes nothing.
 use borrow.Author.Tests.{ne-eqb, eq-eqb}
 use borrow.Author.Needs.{needs}
-use Rattle.modbus.specs.Shape.{fieldsOf}
+use Rattle.modbus.specs.Shape.{requestFields}
 use Rattle.requests.proofs.shape.says.Statement.{statement}
 use Rattle.requests.proofs.shape.says.Tie as tie
 
@@ -16,7 +16,7 @@ write-fields-requires : tie.Need-write-fields-requires
 write-fields-requires c κs = search needs
 
 returns : tie.Need-returns
-unfolding fieldsOf
+unfolding requestFields
 returns c = rw (
   ← c .before .before .before .pair-at .ensures,
   ← c .before .before .pair-at2 .ensures,
@@ -31,7 +31,7 @@ write-fields-requires-2 : tie.Need-write-fields-requires-2
 write-fields-requires-2 c κs = search needs
 
 returns-2 : tie.Need-returns-2
-unfolding fieldsOf
+unfolding requestFields
 returns-2 c = rw (
   ← c .before .before .before .before .before .pair-at .ensures,
   ← c .before .before .before .before .pair-at2 .ensures,
@@ -45,7 +45,7 @@ both-fields-requires : tie.Need-both-fields-requires
 both-fields-requires c κs = search needs
 
 returns-3 : tie.Need-returns-3
-unfolding fieldsOf
+unfolding requestFields
 returns-3 c = rw (
   ne-eqb _ _ (c .before .before .before .if1 .left),
   ne-eqb _ _ (c .before .before .if2 .left),
@@ -59,7 +59,7 @@ write-fields-requires-3 : tie.Need-write-fields-requires-3
 write-fields-requires-3 c κs = search needs
 
 returns-4 : tie.Need-returns-4
-unfolding fieldsOf
+unfolding requestFields
 returns-4 c = rw (
   ← c .before .before .before .before .before .before .before .pair-at .ensures,
   ← c .before .before .before .before .before .before .pair-at2 .ensures,
@@ -72,7 +72,7 @@ returns-4 c = rw (
 )
 
 returns-5 : tie.Need-returns-5
-unfolding fieldsOf
+unfolding requestFields
 returns-5 c = rw (
   ← c .before .before .before .before .before .pair-at .ensures,
   ← c .before .before .before .before .pair-at2 .ensures,

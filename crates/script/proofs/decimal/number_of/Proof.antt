@@ -6,23 +6,23 @@ use native.Mathlib.Omega.{arith}
 use borrow.Author.Needs.{needs}
 use borrow.Author.Tests.{eq-eqb, ne-eqb}
 use lib.ListN.{length, drop}
-use Rattle.script.specs.Digits.{numberFrom, numberOf}
+use Rattle.script.specs.Digits.{boundedFrom, boundedOf}
 use Rattle.script.proofs.Numbers.{digit-at, low-at, high-at, over, at-end}
 use Rattle.script.proofs.decimal.number_of.Statement.{statement}
 use Rattle.script.proofs.decimal.number_of.Tie as tie
 
 abbrev Inv-loop : tie.InvT-loop
-Inv-loop s most limit value₀ i₀ value i = (i ≤ length s) × (value ≤ most) × (limit ≡ most) × (numberFrom most value (drop i s) ≡ numberOf most s)
+Inv-loop s most limit value₀ i₀ value i = (i ≤ length s) × (value ≤ most) × (limit ≡ most) × (boundedFrom most value (drop i s) ≡ boundedOf most s)
 
 abbrev μ-loop : tie.MeasureT-loop
 μ-loop s most limit value₀ i₀ value i = length s - i
 
 returns : tie.Need-returns Inv-loop μ-loop
-unfolding numberOf
+unfolding boundedOf
 returns c = rw (eq-eqb _ _ (c .if1 .taken))
 
 loop-holds : tie.Need-loop-holds Inv-loop μ-loop
-unfolding numberOf
+unfolding boundedOf
 loop-holds c = (omega arith, omega arith, omega arith, rw (ne-eqb _ _ (c .if1 .left)))
 
 shared-slice-read-byte : tie.Need-shared-slice-read-byte Inv-loop μ-loop

@@ -1,0 +1,33 @@
+-- What can be seen of an order in a line's history: the events h that happen, and the notes s that are made of them.
+-- Assumes nothing: these are definitions.
+use Prim.Native.Nat.{ℕ}
+use mathlib.Core.Path.{_≡_}
+use Rattle.word.specs.declared.Frame.{Frame}
+use Rattle.turns.specs.declared.Query.{Query}
+use Rattle.turns.specs.declared.Talker.the-variants.{Modbus}
+use Rattle.turns.specs.Events.{tick, boiler, order, accepted, exception, sent, answer, no-answer, Events, Notes, past, about, ends}
+use Rattle.turns.specs.Promise.{View, Answers}
+
+-- Own j w q: q is the frame of the question w, when it goes out at event j
+abbrev pub Owns : Type 1
+Owns = ℕ → Query → Frame → Type 0
+
+abbrev pub lineView : Owns → Events → Notes → View Query
+lineView Own h s = record {
+  past = past h;
+  Tick = λ n. h n ≡ tick;
+  Boils = λ w n b. h n ≡ boiler b;
+  Asks = λ w n. h n ≡ order w;
+  Accepts = λ n. s n ≡ accepted;
+  Busy = λ w n. s n ≡ exception 6;
+  Sends = λ w n q. s n ≡ sent Modbus q;
+  Own = λ w n q. Own n w q;
+  Ends = λ n. about (s n) ≡ ends;
+  Answer = λ w k b n. s k ≡ answer b n;
+  NoAnswer = λ w k n. s k ≡ no-answer n;
+  place = λ w. 0;
+}
+
+-- the boiler frame b that comes as event k answers the frame q that went out at event j
+abbrev pub AnswersIn : Events → ℕ → Frame → ℕ → Frame → Type 0
+AnswersIn h = Answers (past h) (λ n b. h n ≡ boiler b)
