@@ -115,7 +115,8 @@ module _ (b : List ℕ) (p : Formed b) where
   said : bodyRead b ≡ bodySaid b
   unfolding bodyRead
   said =
-      goes-on Silent (formRead b) (addressed b (p .to)) ∙ goes-on (atOnce (unitOf b) (functionOf b)) (bodySaid b) {cs = formChecks b} (all (serves (p .served)) (all (formed b (p .form)) none))
+      goes-on Silent (formRead b) (addressed b (p .to)) ∙ goes-on (atOnce (unitOf b) (functionOf b)) (bodySaid b) {cs = formChecks b}
+      (all (serves (p .served)) (all (formed b (p .form)) none))
 
   by-unit : (five : Bool) → eqb (unitOf b) 5 ≡ five →
       bodyRead b ≡ cond five (ownOf (requestFields (functionOf b) b)) (mappedOf (unitOf b) (requestFields (functionOf b) b))
@@ -134,7 +135,8 @@ module _ (a : Fields) where
   unfolding ownOf
   version one is =
       ap readingVerdict
-      (goes-on (atOnce 5 (a .function)) (AtOnce (Value 5 (a .function) 0x0100)) {cs = ownChecks a} (all (eq-eqb (a .reads) 1 one) (all (eq-eqb (a .from) 0x0076 is) none)))
+      (goes-on (atOnce 5 (a .function)) (AtOnce (Value 5 (a .function) 0x0100)) {cs = ownChecks a}
+      (all (eq-eqb (a .reads) 1 one) (all (eq-eqb (a .from) 0x0076 is) none)))
 
   pub own-written : (a .reads ≡ 1 → ⊥) → readingVerdict (ownOf a) ≡ exception 5 (a .function) 0x02
   unfolding ownOf
@@ -142,7 +144,8 @@ module _ (a : Fields) where
 
   pub own-other : a .reads ≡ 1 → (a .from ≡ 0x0076 → ⊥) → readingVerdict (ownOf a) ≡ exception 5 (a .function) 0x02
   unfolding ownOf
-  own-other one other = excepted 5 (a .function) (ownChecks a) (AtOnce (Value 5 (a .function) 0x0100)) (later (eq-eqb (a .reads) 1 one) (here (ne-eqb (a .from) 0x0076 other)))
+  own-other one other = excepted 5 (a .function) (ownChecks a) (AtOnce (Value 5 (a .function) 0x0100))
+      (later (eq-eqb (a .reads) 1 one) (here (ne-eqb (a .from) 0x0076 other)))
 
 -- "offset (02); type for 41 (03); .. accepted": no request that passes every check is refused
 module _ (u : ℕ) (a : Fields) where

@@ -67,7 +67,8 @@ good-found u a Nothing c = exception u (a .function) 0x02
 
 good-mapped : (u : ℕ) (a : Fields) → Good (mappedOf u a)
 unfolding mappedOf
-good-mapped u a = by (offsetChecks a) (atOnce u (a .function)) (foundAs u a (firstOf mappingRows a)) (exception u (a .function)) (good-found u a (firstOf mappingRows a) (row-coded a))
+good-mapped u a = by (offsetChecks a) (atOnce u (a .function)) (foundAs u a (firstOf mappingRows a)) (exception u (a .function))
+    (good-found u a (firstOf mappingRows a) (row-coded a))
 
 good-own : (a : Fields) → Good (ownOf a)
 unfolding ownOf

@@ -25,7 +25,8 @@ returns : tie.Need-returns
 unfolding shownIf
 returns c =
     let a = c .before .before .before .before .before .before .before .before .args in
-    let yes : tellsOf (a .answer) ≡ true = sym (c .before .before .before .before .before .before .tells .ensures) ∙ c .before .before .before .before .before .if1 .taken in
+    let yes : tellsOf (a .answer) ≡ true = sym (c .before .before .before .before .before .before .tells .ensures) ∙
+    c .before .before .before .before .before .if1 .taken in
     rw yes (one-line _ _ _ _ (c .before .before .add .ensures) (c .before .before .before .line .ensures))
 
 returns-2 : tie.Need-returns-2

@@ -38,7 +38,9 @@ returns-2 : tie.Need-returns-2
 returns-2 c =
     let a = c .before .before .before .before .before .before .before .before .before .before .before .args in
     let done = c .before .before .copy .ensures in
-    first (a .page .now) (a .used) (a .bytes .now) (a .len) _ (c .before .before .before .before .before .before .before .before .at-most .ensures) (c .before .before .before .before .before .before .before .if1 .left) (c .before .before .before .before .before .before .if2 .taken) _ _ (done .0) (done .1)
+    first (a .page .now) (a .used) (a .bytes .now) (a .len) _ (c .before .before .before .before .before .before .before .before .at-most .ensures)
+    (c .before .before .before .before .before .before .before .if1 .left) (c .before .before .before .before .before .before .if2 .taken) _ _
+    (done .0) (done .1)
 
 copy-requires-2 : tie.Need-copy-requires-2
 copy-requires-2 c κs = search needs
@@ -50,7 +52,8 @@ returns-3 : tie.Need-returns-3
 returns-3 c =
     let a = c .before .before .before .before .before .before .before .before .before .args in
     let done = c .before .before .copy2 .ensures in
-    next (a .page .now) (a .used) (a .bytes .now) (a .len) _ (c .before .before .before .before .before .before .at-most .ensures) (c .before .before .before .before .before .if1 .left) (c .before .before .before .before .if2 .left) _ _ (done .0) (done .1)
+    next (a .page .now) (a .used) (a .bytes .now) (a .len) _ (c .before .before .before .before .before .before .at-most .ensures)
+    (c .before .before .before .before .before .if1 .left) (c .before .before .before .before .if2 .left) _ _ (done .0) (done .1)
 
 pub add-bytes-spec : {M : Type 1} → statement M
 add-bytes-spec =

@@ -20,7 +20,8 @@ same-length c = search needs
 
 returns : tie.Need-returns
 unfolding eventTrace
-returns c = then _ _ _ _ _ (c .before .before .before .before .before .before .before .wrong .ensures) (one-line _ _ _ _ (c .before .before .add .ensures) (c .before .before .before .told .ensures))
+returns c = then _ _ _ _ _ (c .before .before .before .before .before .before .before .wrong .ensures)
+    (one-line _ _ _ _ (c .before .before .add .ensures) (c .before .before .before .told .ensures))
 
 pub happened-spec : {M : Type 1} → statement M
 happened-spec = tie.close (tie.spec wrong-requires told-requires add-requires same-length returns)

@@ -28,7 +28,8 @@ same-length c = search needs
 
 returns-2 : tie.Need-returns-2
 unfolding sentIf
-returns-2 c = rw (c .before .before .before .before .before .before .out .given .1) (one-line _ _ _ _ (c .before .before .add .ensures) (c .before .before .before .sent .ensures))
+returns-2 c = rw (c .before .before .before .before .before .before .out .given .1)
+    (one-line _ _ _ _ (c .before .before .add .ensures) (c .before .before .before .sent .ensures))
 
 pub sent-spec : {M : Type 1} → statement M
 sent-spec =

@@ -30,11 +30,12 @@ same-length c = search needs
 returns : tie.Need-returns
 unfolding tickTrace
 returns c =
+    let d = c .before .before .before .before .before .before .before .before .before .before in
     let told = one-line _ _ _ _ (c .before .before .add .ensures) (c .before .before .before .told .ensures) in
     let four = then _ _ _ _ _ (c .before .before .before .before .before .before .before .sent4 .ensures) told in
     let three = then _ _ _ _ _ (c .before .before .before .before .before .before .before .before .before .before .before .sent3 .ensures) four in
-    let two = then _ _ _ _ _ (c .before .before .before .before .before .before .before .before .before .before .before .before .before .before .before .sent2 .ensures) three in
-    then _ _ _ _ _ (c .before .before .before .before .before .before .before .before .before .before .before .before .before .before .before .before .before .before .before .sent .ensures) two
+    let two = then _ _ _ _ _ (d .before .before .before .before .before .sent2 .ensures) three in
+    then _ _ _ _ _ (d .before .before .before .before .before .before .before .before .before .sent .ensures) two
 
 pub ticked-spec : {M : Type 1} → statement M
 ticked-spec =

@@ -32,8 +32,11 @@ same-length c = search needs
 returns : tie.Need-returns
 unfolding wrongIf
 returns c =
-    let yes : wrongOf (c .before .before .before .before .before .before .before .before .before .before .args .e) ≡ true = sym (c .before .before .before .before .before .before .before .before .is-wrong .ensures) ∙ c .before .before .before .before .before .before .before .if1 .taken in
-    rw yes (one-line _ _ _ _ (c .before .before .add .ensures) (c .before .before .before .put .ensures ∙ ap (λ (t : Text). puts t _) (c .before .before .before .before .before .empty .ensures)))
+    let yes : wrongOf (c .before .before .before .before .before .before .before .before .before .before .args .e) ≡ true = sym
+    (c .before .before .before .before .before .before .before .before .is-wrong .ensures) ∙
+    c .before .before .before .before .before .before .before .if1 .taken in
+    rw yes (one-line _ _ _ _ (c .before .before .add .ensures)
+    (c .before .before .before .put .ensures ∙ ap (λ (t : Text). puts t _) (c .before .before .before .before .before .empty .ensures)))
 
 returns-2 : tie.Need-returns-2
 unfolding wrongIf allAdded

@@ -53,8 +53,11 @@ same-length c = search needs
 returns : tie.Need-returns
 returns c =
     let s = c .before .before .before .before .before in
-    let a = s .args in
-    (refl, rw (c .before .before .before .high .ensures, c .before .before .low .ensures, c .before .high2 .ensures, c .low2 .ensures) (in-front (a .a ∷ a .b ∷ a .o / 256 ∷ a .o % 256 ∷ a .v / 256 ∷ a .v % 256 ∷ 0 ∷ a .c ∷ []) (now (a .room)) (omega (arith, s .pre))))
+    let a = s .args in (
+      refl,
+      rw (c .before .before .before .high .ensures, c .before .before .low .ensures, c .before .high2 .ensures, c .low2 .ensures)
+          (in-front (a .a ∷ a .b ∷ a .o / 256 ∷ a .o % 256 ∷ a .v / 256 ∷ a .v % 256 ∷ 0 ∷ a .c ∷ []) (now (a .room)) (omega (arith, s .pre))),
+    )
 
 pub eight-spec : {M : Type 1} → statement M
 eight-spec =

@@ -38,8 +38,11 @@ same-length c = search needs
 returns : tie.Need-returns
 returns c =
     let s = c .before .before .before in
-    let a = s .args in
-    (refl, rw (c .before .high .ensures, c .low .ensures) (in-front (a .a ∷ a .b ∷ a .c ∷ a .v / 256 ∷ a .v % 256 ∷ []) (now (a .room)) (omega (arith, s .pre))))
+    let a = s .args in (
+      refl,
+      rw (c .before .high .ensures, c .low .ensures) (in-front (a .a ∷ a .b ∷ a .c ∷ a .v / 256 ∷ a .v % 256 ∷ []) (now (a .room))
+          (omega (arith, s .pre))),
+    )
 
 pub five-spec : {M : Type 1} → statement M
 five-spec =

@@ -47,8 +47,11 @@ same-length c = search needs
 returns : tie.Need-returns
 returns c =
     let s = c .before .before .before .before .before in
-    let a = s .args in
-    (refl, rw (c .before .before .before .high .ensures, c .before .before .low .ensures, c .before .high2 .ensures, c .low2 .ensures) (in-front (a .a ∷ a .b ∷ a .o / 256 ∷ a .o % 256 ∷ a .v / 256 ∷ a .v % 256 ∷ []) (now (a .room)) (omega (arith, s .pre))))
+    let a = s .args in (
+      refl,
+      rw (c .before .before .before .high .ensures, c .before .before .low .ensures, c .before .high2 .ensures, c .low2 .ensures)
+          (in-front (a .a ∷ a .b ∷ a .o / 256 ∷ a .o % 256 ∷ a .v / 256 ∷ a .v % 256 ∷ []) (now (a .room)) (omega (arith, s .pre))),
+    )
 
 pub six-spec : {M : Type 1} → statement M
 six-spec =
