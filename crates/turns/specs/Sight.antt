@@ -8,7 +8,7 @@ use Rattle.turns.specs.declared.Talker.the-variants.{Modbus}
 use Rattle.turns.specs.Events.{tick, boiler, order, accepted, exception, sent, answer, no-answer, Events, Notes, past, about, ends}
 use Rattle.turns.specs.Promise.{View, Answers}
 
--- Own j w q: q is the frame of the question w, when it goes out at event j
+-- Own j w q: q is the frame of the query w, when it goes out at event j
 abbrev pub Owns : Type 1
 Owns = ℕ → Query → Frame → Type 0
 
