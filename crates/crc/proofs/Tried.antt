@@ -13,3 +13,8 @@ p8 = refl
 pub digits : crcOf (0x31 ∷ 0x32 ∷ 0x33 ∷ 0x34 ∷ 0x35 ∷ 0x36 ∷ 0x37 ∷ 0x38 ∷ 0x39 ∷ []) ≡ 0x4b37
 unfolding crcOf crcFrom crcBits
 digits = refl
+
+-- bytes of 80 and more
+pub high : crcOf (0x81 ∷ 0xc2 ∷ 0xff ∷ 0x80 ∷ []) ≡ 0xb4c9
+unfolding crcOf crcFrom crcBits
+high = refl

@@ -1,2 +1,3 @@
--- What a reader must believe of the data ids.
+-- What a reader must believe of the data ids, and of signed numbers.
 pub mod Ids
+pub mod Signed

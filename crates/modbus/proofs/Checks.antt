@@ -14,26 +14,17 @@ use Rattle.word.specs.Checks.{Check, judged, Fails, here, later, Passes, none, 
 use Rattle.word.proofs.Checks.{refuses, goes-on}
 use Rattle.crc.specs.Crc.{passesOf, sealed, unsealed}
 use Rattle.crc.proofs.Sealed.{length-sealed, sealed-passes, unsealed-sealed}
-use Rattle.modbus.specs.declared.QuestionType.{QuestionType}
 use Rattle.modbus.specs.declared.Reading.{Reading}
-use Rattle.modbus.specs.declared.Reading.the-variants.{Silent, AtOnce, Accepted}
+use Rattle.modbus.specs.declared.Reading.the-variants.{Silent, AtOnce}
 use Rattle.modbus.specs.declared.Reply.{Reply}
 use Rattle.modbus.specs.declared.Reply.the-variants.{Value}
 use Rattle.modbus.specs.declared.Written.the-variants.{Count, Refused}
-use Rattle.modbus.specs.declared.rows.Found.{Found}
-use Rattle.modbus.specs.declared.rows.Found.the-variants.{First, Nothing}
-use Rattle.modbus.specs.declared.rows.Row.{Row}
-use Rattle.modbus.specs.declared.rows.Naming.the-variants.{Known, Unnamed}
 use Rattle.modbus.specs.declared.shape.Fields.{Fields}
 use Rattle.modbus.specs.Shape.{unitOf, functionOf, requestFields}
 use Rattle.modbus.specs.Mapping.{
   mappingRows,
   firstOf,
-  typeFrom,
-  asOrder,
   atOnce,
-  typedAs,
-  askOf,
   foundAs,
   unlikeOf,
   offsetChecks,
@@ -46,9 +37,10 @@ use Rattle.modbus.specs.Mapping.{
   formRead,
   bodyRead,
 }
+use Rattle.modbus.specs.Becomes.{Addressed, Serves}
 use Rattle.modbus.specs.Numbers.{refused, exception, two-value, bytes, readingVerdict, writtenVerdict}
 use Rattle.modbus.specs.Wire.{wireChecks, requestOf, bytesOf, placed, roomChecks, replyWritten, replyRoom}
-use Rattle.modbus.proofs.Served.{Serves, serves, unserved}
+use Rattle.modbus.proofs.Served.{serves, unserved}
 use Rattle.modbus.proofs.Formed.{RightForm, formed, unformed}
 
 -- a check of the list fails and none before it: silence, or an exception, with its number
@@ -72,11 +64,6 @@ module _ (s : List ℕ) where
       silence (wireChecks s) (bodyRead (unsealed s)) (later (le-leb 4 (length s) from) (later (le-leb (length s) 256 upto) (here other)))
 
 -- "unit 1 to 5; function below 80"
-pub record Addressed (b : List ℕ) : Type 0 where
-  pub from : 1 ≤ unitOf b
-  pub upto : unitOf b ≤ 5
-  pub below : functionOf b < 0x80
-
 module _ (b : List ℕ) where
   pub thirteen : (unitOf b < 1) ⊎ (5 < unitOf b) → readingVerdict (bodyRead b) ≡ refused 13
   unfolding bodyRead
@@ -147,7 +134,7 @@ module _ (a : Fields) where
   own-other one other = excepted 5 (a .function) (ownChecks a) (AtOnce (Value 5 (a .function) 0x0100))
       (later (eq-eqb (a .reads) 1 one) (here (ne-eqb (a .from) 0x0076 other)))
 
--- "offset (02); type for 41 (03); .. accepted": no request that passes every check is refused
+-- "offset (02)", before any row is looked up
 module _ (u : ℕ) (a : Fields) where
   -- "For 17 with both, the two offsets are equal (else 02)"
   pub unlike : 1 ≤ a .reads → 1 ≤ a .writes → (a .from ≡ a .to → ⊥) → readingVerdict (mappedOf u a) ≡ exception u (a .function) 0x02
@@ -169,21 +156,10 @@ module _ (u : ℕ) (a : Fields) where
             let w = eqb-false (a .writes) 0 ew in
             rw (eq-eqb (a .from) (a .to) (alike (omega (arith, r)) (omega (arith, w))))
 
-    found : (f : Found) → firstOf mappingRows a ≡ f → mappedOf u a ≡ foundAs u a f
+    -- and what comes then is the rows'
+    pub found : mappedOf u a ≡ foundAs u a (firstOf mappingRows a)
     unfolding mappedOf
-    found f e = goes-on (atOnce u (a .function)) (foundAs u a (firstOf mappingRows a)) {cs = offsetChecks a} (all (ap not even-so) none) ∙ ap (foundAs u a) e
-
-    pub no-row : firstOf mappingRows a ≡ Nothing → readingVerdict (mappedOf u a) ≡ exception u (a .function) 0x02
-    no-row e = ap readingVerdict (found Nothing e)
-
-    module _ (r : Row) (fits : firstOf mappingRows a ≡ First r) where
-      pub no-type : typeFrom (r .4) (a .message) ≡ Unnamed → readingVerdict (mappedOf u a) ≡ exception u (a .function) 0x03
-      unfolding askOf
-      no-type e = ap readingVerdict (found (First r) fits ∙ ap (typedAs u a r) e)
-
-      pub taken : (t : QuestionType) → typeFrom (r .4) (a .message) ≡ Known t → mappedOf u a ≡ Accepted (asOrder u a r t)
-      unfolding askOf
-      taken t e = found (First r) fits ∙ ap (typedAs u a r) e
+    found = goes-on (atOnce u (a .function)) (foundAs u a (firstOf mappingRows a)) {cs = offsetChecks a} (all (ap not even-so) none)
 
 -- a body with its checksum behind it is read as the body
 pub unwrapped : (b : List ℕ) → 2 ≤ length b → length b ≤ 254 → requestOf (sealed b) ≡ bodyRead b

@@ -11,8 +11,8 @@ use lib.ListN.{length, getD}
 use Rattle.word.proofs.Match.{both}
 use Rattle.places.specs.Bytes.{pairAt}
 use Rattle.modbus.specs.Shape.{readFormed, manyFormed, bothFormed, formedOf}
-use Rattle.modbus.proofs.Served.{Serves}
-use Rattle.modbus.proofs.Served as serves
+use Rattle.modbus.specs.Becomes.{Serves}
+use Rattle.modbus.specs.Becomes as serves
 
 -- 03, 04: offset, count
 pub record ReadForm (b : List ℕ) : Type 0 where
@@ -93,7 +93,7 @@ module _ (b : List ℕ) where
         one = leb-true 1 (pairAt b 4 + pairAt b 8) (w .1);
       }
 
-  form : {u f : ℕ} → Serves u f → formedOf f b ≡ true → RightForm b f
+  pub form : {u f : ℕ} → Serves u f → formedOf f b ≡ true → RightForm b f
   unfolding formedOf
   form serves.three e = three (read-form e)
   form serves.four e = four (read-form e)

@@ -11,3 +11,11 @@ pub mod Replies
 pub mod Messages
 pub mod Wrapping
 pub mod Printed
+pub mod Asked
+pub mod Requests
+pub mod Spelled
+pub mod Apart
+pub mod Total
+pub mod Becomes
+pub mod Sent
+pub mod Answered

@@ -6,8 +6,8 @@ use Prim.Native.Nat.{ℕ, _+_, _/_, _%_, _≤_}
 use native.Mathlib.Omega.{arith}
 use native.Mathlib.Numerals.{add-one}
 use native.Mathlib.Nat.{zero-add}
-use lib.ListN.{length, drop, set, length-append, length-drop}
-use lib.Seq.{sets, sets-eq, take-at, drop-append-add, drop-drop}
+use lib.ListN.{length, take, drop, set, length-append, length-drop}
+use lib.Seq.{sets, sets-eq, take-at, drop-at, drop-append-add, drop-drop}
 use borrow.Author.Tests.{le-leb}
 use Rattle.crc.specs.Crc.{crcOf, sealed}
 use Rattle.modbus.specs.declared.Reply.{Reply}
@@ -55,3 +55,7 @@ module _ (r : Reply) (room last : List ℕ) (n c lo hi : ℕ) (en : n ≡ length
 
   pub written : (Count (n + 2) ≡ replyWritten r room) × (set (set last n lo) (n + 1) hi ≡ replyRoom r room)
   written = (counted, filled)
+
+-- "Bytes of a lent room behind the reply .. stay", and those in front are the reply's
+pub behind-stays : (b room : List ℕ) → (take (length b) (placed b room) ≡ b) × (drop (length b) (placed b room) ≡ drop (length b) room)
+behind-stays b room = (take-at b (drop (length b) room) (length b) refl, drop-at b (drop (length b) room) (length b) refl)

@@ -1,20 +1,22 @@
--- A question's type is 0 to 2, so its word is always built.
+-- A question's word says its type, id and value; its type is 0 to 2, so it is always built.
 -- Assumes nothing.
-use mathlib.Core.Path.{_≡_, refl}
-use Prim.Native.Nat.{ℕ, _≤_}
-use lib.Dec.{lit≤}
+use mathlib.Core.Path.{_≡_, refl, sym, subst}
+use Prim.Native.Nat.{ℕ, _<_}
+use lib.Dec.{lit<}
 use Rattle.word.proofs.Clash.{clash}
 use Rattle.word.specs.Frame.{bare, evened, builtOf}
+use Rattle.word.specs.Fields.{BuiltFrom}
+use Rattle.word.proofs.Fields.{written}
 use Rattle.word.specs.declared.Built.the-variants.{Word, Refused}
 use Rattle.modbus.specs.declared.Question.{Question}
 use Rattle.modbus.specs.declared.QuestionType.{QuestionType}
 use Rattle.modbus.specs.declared.QuestionType.the-variants.{ReadData, WriteData, InvalidData}
 use Rattle.modbus.specs.Mapping.{typeNumber, wordOf}
 
-pub small-type : (t : QuestionType) → typeNumber t ≤ 2
-small-type ReadData = lit≤ tt
-small-type WriteData = lit≤ tt
-small-type InvalidData = lit≤ tt
+small-type : (t : QuestionType) → typeNumber t < 8
+small-type ReadData = lit< tt
+small-type WriteData = lit< tt
+small-type InvalidData = lit< tt
 
 pub always-built : (t : QuestionType) (i v : ℕ) → builtOf (typeNumber t) i v ≡ Word (evened (bare (typeNumber t) i v))
 unfolding builtOf
@@ -29,3 +31,9 @@ is-word w q e = let built = always-built (q .t) (q .id) (q .value) in cc
 
 pub never-refused : (n : ℕ) (t : QuestionType) (i v : ℕ) → Refused n ≡ builtOf (typeNumber t) i v → ⊥
 never-refused n t i v e = let built = always-built t i v in clash cc
+
+-- the table's second column on the line: a question's word is built from its type, id and value
+pub word-says : (q : Question) → q .id < 256 → q .value < 65536 → BuiltFrom (typeNumber (q .t)) (q .id) (q .value) (wordOf q)
+word-says q hi hv =
+    let made = written (typeNumber (q .t)) (q .id) (q .value) (small-type (q .t)) hi hv in
+    subst (BuiltFrom (typeNumber (q .t)) (q .id) (q .value)) (is-word (made .0) q (sym (made .1 .0))) (made .1 .1)

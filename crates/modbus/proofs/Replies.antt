@@ -1,26 +1,22 @@
--- A reply's bytes: at most 10, so a room of 16 always suffices; they end in their checksum, and begin with the unit; where there is a value,
--- it is the one that the order came to.
+-- A reply's bytes: at most 10, so a room of 16 always suffices; where there is a value, it is the one that the order came to.
 -- Assumes nothing.
 use mathlib.Core.Path.{_≡_, refl}
 use mathlib.Core.Bool.{Bool, true, false, cond, _||_}
-use Prim.Native.Nat.{ℕ, _≤_}
-use native.Mathlib.Nat.{div-add-mod'}
+use mathlib.Core.List.{[], _∷_}
+use Prim.Native.Nat.{ℕ, _*_, _%_, _≤_}
 use native.Mathlib.Omega.{arith}
 use lib.Dec.{lit≤, eqb}
 use lib.ListN.{length, getD}
-use Rattle.crc.specs.Crc.{passesOf}
-use Rattle.crc.proofs.Sealed.{length-sealed, sealed-passes}
-use Rattle.places.specs.Bytes.{pairAt}
-use Rattle.word.specs.Frame.{data-invalid, unknown-dataid}
+use Rattle.crc.proofs.Sealed.{length-sealed}
+use Rattle.places.specs.Bytes.{pairAt, pair}
+use Rattle.places.proofs.Place.{pair-back}
 use Rattle.modbus.specs.declared.Form.{Form}
 use Rattle.modbus.specs.declared.Form.the-variants as form
 use Rattle.modbus.specs.declared.Order.{Order}
-use Rattle.modbus.specs.declared.Outcome.{Outcome}
-use Rattle.modbus.specs.declared.Outcome.the-variants.{Answer, NoAnswer}
+use Rattle.modbus.specs.declared.Outcome.the-variants.{Answer}
 use Rattle.modbus.specs.declared.Reply.{Reply}
 use Rattle.modbus.specs.declared.Reply.the-variants.{Exception, Value, Offset, Zero, Whole}
-use Rattle.modbus.specs.Numbers.{exception as with-code, replyVerdict}
-use Rattle.modbus.specs.Outcomes.{exceptionOf, busyOf, codeOf, ordinaryOf, ofInvalid, normalOf, answerOf}
+use Rattle.modbus.specs.Outcomes.{exceptionOf, codeOf, ordinaryOf, ofInvalid, normalOf, answerOf}
 use Rattle.modbus.specs.Wire.{bodyOf, ValueAt, value, offset-value, whole, bytesOf}
 use Rattle.modbus.specs.Wrapping.{Coded}
 
@@ -36,50 +32,6 @@ short-body (Whole u o v t) = lit≤ tt
 pub short : (r : Reply) → length (bytesOf r) ≤ 10
 unfolding bytesOf
 short r = omega (arith, length-sealed (bodyOf r), short-body r)
-
-pub reply-passes : (r : Reply) → passesOf (bytesOf r) ≡ true
-unfolding bytesOf
-reply-passes r = sealed-passes (bodyOf r)
-
--- the first byte of a reply
-abbrev pub unitOfReply : Reply → ℕ
-unitOfReply r = getD (bodyOf r) 0 0
-
--- an exception in place of a normal reply is the same unit's
-either : (refused : Bool) (o : Order) (code : ℕ) (normal : Reply) → unitOfReply normal ≡ o .line
-    → unitOfReply (cond refused (exceptionOf o code) normal) ≡ o .line
-unfolding bodyOf
-either true o code normal e = refl
-either false o code normal e = e
-
-plain-unit : (o : Order) (t : ℕ) (normal : Reply) → unitOfReply normal ≡ o .line → unitOfReply (ordinaryOf o t normal) ≡ o .line
-unfolding ordinaryOf
-plain-unit o t normal e = either (eqb t data-invalid || eqb t unknown-dataid) o (codeOf t) normal e
-
--- whatever comes of an order, the reply is its unit's
-answered-unit : (m : Form) (o : Order) (t v : ℕ) → unitOfReply (normalOf m o t v) ≡ o .line
-unfolding normalOf ofInvalid bodyOf
-answered-unit form.Value o t v = plain-unit o t _ refl
-answered-unit form.OffsetValue o t v = plain-unit o t _ refl
-answered-unit form.OffsetOne o t v = plain-unit o t _ refl
-answered-unit form.Zero o t v = plain-unit o t _ refl
-answered-unit form.Never o t v = refl
-answered-unit form.ValueOfInvalid o t v = either (eqb t unknown-dataid) o (codeOf t) _ refl
-answered-unit form.Whole o t v = refl
-
-pub same-unit : (o : Order) (w : Outcome) → unitOfReply (answerOf o w) ≡ o .line
-unfolding answerOf bodyOf
-same-unit o (Answer t v) = answered-unit (o .form) o t v
-same-unit o NoAnswer = refl
-
--- "no answer is 0B", for every order
-pub no-answer : (o : Order) → replyVerdict (answerOf o NoAnswer) ≡ with-code (o .line) (o .function) 0x0b
-unfolding answerOf
-no-answer o = refl
-
--- "an order already waiting (06 ..)"
-pub busy-code : (o : Order) → replyVerdict (busyOf o) ≡ with-code (o .line) (o .function) 0x06
-busy-code o = refl
 
 -- ---- the replies to an answer of value v
 
@@ -115,13 +67,13 @@ no-value u f code p (whole n) = omega arith
 -- a reply that has a value has this one
 module _ (o : Order) (v : ℕ) where
   reply-carries : (p : ℕ) {r : Reply} → ReplyTo o v r → ValueAt (bodyOf r) p → (getD (bodyOf r) 0 0 ≡ o .line) × (pairAt (bodyOf r) p ≡ v)
-  unfolding bodyOf pairAt
+  unfolding bodyOf
   reply-carries p (exception code) has = absurd (no-value (o .line) (o .function) code p has)
-  reply-carries p plain (value n) = (refl, div-add-mod' v 256)
+  reply-carries p plain (value n) = (refl, pair-back (o .line ∷ o .function ∷ 0x02 ∷ []) [] v)
   reply-carries p plain (offset-value n f) = absurd (omega arith)
   reply-carries p plain (whole n) = absurd (omega arith)
   reply-carries p from-boiler (value n) = absurd (omega arith)
-  reply-carries p from-boiler (offset-value n f) = (refl, div-add-mod' v 256)
+  reply-carries p from-boiler (offset-value n f) = (refl, pair-back (o .line ∷ o .function ∷ pair (o .offset) []) [] v)
   reply-carries p from-boiler (whole n) = absurd (omega arith)
   reply-carries p (one is) (value n) = absurd (omega arith)
   reply-carries p (one is) (offset-value n f) = absurd (omega arith)
@@ -131,7 +83,7 @@ module _ (o : Order) (v : ℕ) where
   reply-carries p zero (whole n) = absurd (omega arith)
   reply-carries p (all t) (value n) = absurd (omega arith)
   reply-carries p (all t) (offset-value n f) = absurd (omega arith)
-  reply-carries p (all t) (whole n) = (refl, div-add-mod' v 256)
+  reply-carries p (all t) (whole n) = (refl, pair-back (o .line ∷ 0x41 ∷ pair (o .offset) []) (0x00 ∷ (t % 16 * 16) ∷ []) v)
 
   pub carries : Coded (o .function) (o .form) → (t p : ℕ) → ValueAt (bodyOf (answerOf o (Answer t v))) p →
       (getD (bodyOf (answerOf o (Answer t v))) 0 0 ≡ o .line) × (pairAt (bodyOf (answerOf o (Answer t v))) p ≡ v)

@@ -6,15 +6,8 @@ use mathlib.Core.List.{List, [], _∷_}
 use Prim.Native.Nat.{ℕ}
 use borrow.Author.Tests.{eqb-false, ne-eqb}
 use lib.Dec.{eqb}
+use Rattle.modbus.specs.Becomes.{Serves, three, four, six, ten, seventeen, forty-one}
 use Rattle.modbus.specs.Mapping.{mappingRows, among, functionsOf, ownFunctions, servedOf}
-
-pub data Serves (u : ℕ) : ℕ → Type 0 where
-  three : Serves u 0x03
-  four : Serves u 0x04
-  six : Serves u 0x06
-  ten : Serves u 0x10
-  seventeen : (u ≡ 5 → ⊥) → Serves u 0x17
-  forty-one : (u ≡ 5 → ⊥) → Serves u 0x41
 
 same : (five : Bool) → cond five true true ≡ true
 same true = refl

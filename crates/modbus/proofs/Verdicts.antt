@@ -28,10 +28,10 @@ use Rattle.modbus.specs.Numbers.{
   writtenVerdict,
 }
 
-typed : ℕ → QuestionType
+unfoldable pub typed : ℕ → QuestionType
 typed n = cond (eqb n 0) ReadData (cond (eqb n 1) WriteData InvalidData)
 
-reading : Verdict → Reading
+unfoldable pub reading : Verdict → Reading
 reading (refused n) = Silent n
 reading (exception u f c) = AtOnce (Exception u f c)
 reading (two-value u f v) = AtOnce (Value u f v)
@@ -56,7 +56,7 @@ reply-back (Offset u f o v) = refl
 reply-back (Zero u f) = refl
 reply-back (Whole u o v t) = refl
 
-reading-back : (r : Reading) → reading (readingVerdict r) ≡ r
+pub reading-back : (r : Reading) → reading (readingVerdict r) ≡ r
 unfolding reading
 reading-back (Silent n) = refl
 reading-back (AtOnce r) = reply-back r

@@ -2,7 +2,7 @@
 -- Assumes nothing: these are definitions.
 use Prim.Native.Nat.{ℕ, _≤_}
 use mathlib.Core.Path.{_≡_}
-use mathlib.Core.List.{List}
+use mathlib.Core.List.{List, []}
 use lib.ListN.{length}
 use Rattle.crc.specs.Crc.{unsealed}
 use Rattle.modbus.specs.declared.Form.{Form}
@@ -42,13 +42,17 @@ pub record Right (o : Order) : Type 0 where
   pub upto : o .line ≤ 4
   pub coded : Coded (o .function) (o .form)
 
--- a reply that is given at once is an exception, or unit 5's
+-- a reply that is given at once is an exception, or unit 5's "0100 (version 1.0)"
 pub data GivenAtOnce : Reply → Type 0 where
   exception : (u f code : ℕ) → GivenAtOnce (Exception u f code)
-  own : (f v : ℕ) → GivenAtOnce (Value 5 f v)
+  own : (f : ℕ) → GivenAtOnce (Value 5 f 0x0100)
 
 pub record Lawful (W : Wrapping) : Type 0 where
   pub orders : (b : List ℕ) (o : Order) → W .reads b ≡ reading.Accepted o → Right o
   pub at-once : (b : List ℕ) (r : Reply) → W .reads b ≡ reading.AtOnce r → GivenAtOnce r
+  -- "11, 12, 13, 14": no other number is a silence
+  pub silent : (b : List ℕ) (n : ℕ) → W .reads b ≡ reading.Silent n → (11 ≤ n) × (n ≤ 14)
   pub whole : (r : Reply) → W .body (W .writes r) ≡ bodyOf r
+  -- where nothing is written there is no body
+  pub empty : W .body [] ≡ []
   pub fits : (r : Reply) → length (W .writes r) ≤ least-room

@@ -1,14 +1,11 @@
--- The listing doesn't depend on how the input is cut into blocks, and each four bytes give the line of their word.
+-- The lines of a block that comes in two parts, and of one that is read byte by byte.
 -- Assumes nothing.
 use mathlib.Core.Path.{_≡_, refl, sym, ap, ap₂, _∙_}
 use mathlib.Core.List.{List, [], _∷_, _++_, append-assoc}
-use Prim.Native.Nat.{ℕ, _+_, _/_, _%_, _^_, _<_}
-use native.Mathlib.Omega.{arith}
+use Prim.Native.Nat.{ℕ, _+_, _<_}
 use lib.ListN.{length, drop, getD}
 use Rattle.print.specs.Page.{Page, allAdded}
 use Rattle.print.proofs.Added.{all-append, left-from}
-use Rattle.places.specs.Bytes.{quad}
-use Rattle.otlist.specs.Listing.{listedOf}
 use Rattle.otlist.specs.Words.{wordAfter, countAfter, lineIf, linesIn, lastWord, lastCount}
 
 -- a block that comes in two parts gives the same lines, and leaves the same behind
@@ -19,29 +16,10 @@ cut w n (b ∷ s) t =
     ap (λ (x : List (List ℕ)). lineIf (countAfter n) (wordAfter w b) ++ x) (cut (wordAfter w b) (countAfter n) s t)
     ∙ sym (append-assoc (lineIf (countAfter n) (wordAfter w b)) _ _)
 
-pub cut-word : (w : ℕ) (s t : List ℕ) → lastWord w (s ++ t) ≡ lastWord (lastWord w s) t
-unfolding lastWord
-cut-word w [] t = refl
-cut-word w (b ∷ s) t = cut-word (wordAfter w b) s t
-
 pub cut-count : (n : ℕ) (s t : List ℕ) → lastCount n (s ++ t) ≡ lastCount (lastCount n s) t
 unfolding lastCount
 cut-count n [] t = refl
 cut-count n (b ∷ s) t = cut-count (countAfter n) s t
-
--- four bytes, whatever came before them, give the line of their word, the first byte the highest
-pub word-line : (w v : ℕ) (s : List ℕ) → v < 2 ^ 32 → linesIn w 0 (quad v s) ≡ listedOf v ∷ linesIn v 0 s
-unfolding linesIn lineIf
-word-line w v s h =
-    let high : ℕ = wordAfter (wordAfter w (v / 65536 / 256)) (v / 65536 % 256) in
-    let e : wordAfter (wordAfter high (v % 65536 / 256)) (v % 65536 % 256) ≡ v = omega arith in
-    ap (λ (x : ℕ). listedOf x ∷ linesIn x 0 s) e
-
--- what is over at the end: a tail of one to three bytes, or none
-pub tail : (n : ℕ) (s : List ℕ) → n < 4 → lastCount n s ≡ (n + length s) % 4
-unfolding lastCount
-tail n [] h = omega arith
-tail n (b ∷ s) h = let rest = tail (countAfter n) s (omega arith) in omega arith
 
 -- a block byte by byte, for `take`
 module _ (s : List ℕ) (i : ℕ) (h : i < length s) where

@@ -2,41 +2,28 @@
 -- Assumes nothing.
 use mathlib.Core.Path.{_≡_, refl}
 use mathlib.Core.Bool.{Bool, true, false, cond}
-use mathlib.Core.List.{List, _∷_}
-use Prim.Native.Nat.{ℕ, _+_, _-_, _/_, _%_, _^_, _≤_, _<_}
+use mathlib.Core.List.{List}
+use Prim.Native.Nat.{ℕ, suc, _+_, _-_, _/_, _%_, _^_, _≤_, _<_}
 use native.Mathlib.Omega.{arith}
 use lib.Dec.{eqb, ltb}
+use lib.IntN.{pos, negsuc}
 use lib.ListN.{length, length-append}
 use borrow.Author.Tests.{ltb-false}
 use Rattle.word.specs.Frame.{evenOf, typeOf, idOf, valueOf}
-use Rattle.text.specs.Text.{emptyText, puts, says, decimalOf}
+use Rattle.text.specs.Text.{emptyText, puts, says}
 use Rattle.text.proofs.Puts.{decimal-short, hex-length, says-puts}
 use Rattle.ids.specs.Ids.{kindOf}
-use Rattle.otlist.specs.Listing.{nameOf, signedOf, listedNumbers, listedFields, listedOf}
+use Rattle.ids.specs.Signed.{signed}
+use Rattle.kinds.proofs.Short.{either, name-short}
+use Rattle.otlist.specs.Listing.{signedDecimal, listedNumbers, listedFields, listedOf}
 
--- both cases of a choice are short
-either : (b : Bool) (x y : List ℕ) (n : ℕ) → length x ≤ n → length y ≤ n → length (cond b x y) ≤ n
-either true x y n p q = p
-either false x y n p q = q
-
-name-short : (k : ℕ) → length (nameOf k) ≤ 5
-unfolding nameOf
-name-short k =
-    either (eqb k 1) _ _ 5 (omega arith)
-    (either (eqb k 2) _ _ 5 (omega arith)
-    (either (eqb k 3) _ _ 5 (omega arith)
-    (either (eqb k 4) _ _ 5 (omega arith)
-    (either (eqb k 5) _ _ 5 (omega arith) (omega arith)))))
-
-signed-short : (half n : ℕ) → half ≤ 0x8000 → n < half + half → length (signedOf half n) ≤ 6
-unfolding signedOf
-signed-short half n h lt =
-    let plain = decimal-short 4 n (omega arith) in
-    go (ltb n half) refl plain
+signed-short : (half n : ℕ) → half ≤ 0x8000 → n < half + half → length (signedDecimal (signed half n)) ≤ 6
+unfolding signedDecimal
+signed-short half n h lt = go (ltb n half) refl
   where
-    go : (b : Bool) → ltb n half ≡ b → length (decimalOf n) ≤ 5 → length (cond b (decimalOf n) (45 ∷ decimalOf (half + half - n))) ≤ 6
-    go true e p = omega arith
-    go false e p = let above = ltb-false n half e in let q = decimal-short 4 (half + half - n) (omega arith) in omega arith
+    go : (b : Bool) → ltb n half ≡ b → length (signedDecimal (cond b (pos n) (negsuc (half + half - suc n)))) ≤ 6
+    go true e = let p = decimal-short 4 n (omega arith) in omega arith
+    go false e = let above = ltb-false n half e in let q = decimal-short 4 (suc (half + half - suc n)) (omega arith) in omega arith
 
 numbers-short : (k v : ℕ) → v < 65536 → length (listedNumbers k v) ≤ 13
 unfolding listedNumbers

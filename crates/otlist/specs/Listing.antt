@@ -1,12 +1,16 @@
--- The listing's lines (01, 'The listing'), in ASCII.
+-- The listing (01, 'The listing'), in ASCII: the line of a word, and the lines of a whole input.
 -- Assumes nothing: these are definitions.
-use Prim.Native.Nat.{ℕ, _+_, _-_, _/_, _%_}
+use Prim.Native.Nat.{ℕ, suc, _/_, _%_}
 use mathlib.Core.Bool.{cond}
 use mathlib.Core.List.{List, [], _∷_, _++_}
-use lib.Dec.{eqb, ltb}
+use lib.Dec.{eqb}
+use lib.IntN.{ℤ, pos, negsuc}
 use Rattle.word.specs.Frame.{evenOf, typeOf, idOf, valueOf}
+use Rattle.places.specs.Bytes.{wordAt}
 use Rattle.text.specs.Text.{decimalOf, hexOf}
-use Rattle.ids.specs.Ids.{kindOf, real, s16, u16, pair, spair}
+use Rattle.ids.specs.Ids.{kindOf, real, s16, pair, spair}
+use Rattle.ids.specs.Signed.{signed16, signed8}
+use Rattle.kinds.specs.Names.{nameOf}
 
 abbrev pub space : ℕ
 space = 32
@@ -17,27 +21,18 @@ minus = 45
 abbrev pub newline : ℕ
 newline = 10
 
--- "Kinds: `real s16 u16 pair spair raw`."
-unfoldable pub nameOf : ℕ → List ℕ
-nameOf k =
-    cond (eqb k real) (114 ∷ 101 ∷ 97 ∷ 108 ∷ [])
-    (cond (eqb k s16) (115 ∷ 49 ∷ 54 ∷ [])
-    (cond (eqb k u16) (117 ∷ 49 ∷ 54 ∷ [])
-    (cond (eqb k pair) (112 ∷ 97 ∷ 105 ∷ 114 ∷ [])
-    (cond (eqb k spair) (115 ∷ 112 ∷ 97 ∷ 105 ∷ 114 ∷ [])
-    (114 ∷ 97 ∷ 119 ∷ [])))))
-
--- a signed number of which half of the raw numbers are not negative
-unfoldable pub signedOf : ℕ → ℕ → List ℕ
-signedOf half n = cond (ltb n half) (decimalOf n) (minus ∷ decimalOf (half + half - n))
+-- a signed number in decimal
+unfoldable pub signedDecimal : ℤ → List ℕ
+signedDecimal (pos n) = decimalOf n
+signedDecimal (negsuc n) = minus ∷ decimalOf (suc n)
 
 -- "the number (two for a pair; a real as its signed raw number; raw as unsigned)"
 unfoldable pub listedNumbers : ℕ → ℕ → List ℕ
 listedNumbers k v =
-    cond (eqb k real) (signedOf 0x8000 v)
-    (cond (eqb k s16) (signedOf 0x8000 v)
+    cond (eqb k real) (signedDecimal (signed16 v))
+    (cond (eqb k s16) (signedDecimal (signed16 v))
     (cond (eqb k pair) (decimalOf (v / 256) ++ (space ∷ decimalOf (v % 256)))
-    (cond (eqb k spair) (signedOf 0x80 (v / 256) ++ (space ∷ signedOf 0x80 (v % 256)))
+    (cond (eqb k spair) (signedDecimal (signed8 (v / 256)) ++ (space ∷ signedDecimal (signed8 (v % 256))))
     (decimalOf v))))
 
 -- "type, id in decimal, value in four hex digits, kind, and the number"
@@ -49,3 +44,15 @@ listedFields w =
 -- "Odd parity prints `- parity`"
 unfoldable pub listedOf : ℕ → List ℕ
 listedOf w = cond (evenOf w) (listedFields w) (minus ∷ space ∷ 112 ∷ 97 ∷ 114 ∷ 105 ∷ 116 ∷ 121 ∷ newline ∷ [])
+
+-- "a tail of 1 to 3 bytes `- short`"
+abbrev pub shortLine : List ℕ
+shortLine = minus ∷ space ∷ 115 ∷ 104 ∷ 111 ∷ 114 ∷ 116 ∷ newline ∷ []
+
+-- "reads 4-byte words from standard input, high byte first, and prints a line each": the lines of a whole input
+unfoldable pub listingOf : List ℕ → List (List ℕ)
+listingOf [] = []
+listingOf (a ∷ []) = shortLine ∷ []
+listingOf (a ∷ b ∷ []) = shortLine ∷ []
+listingOf (a ∷ b ∷ c ∷ []) = shortLine ∷ []
+listingOf (a ∷ b ∷ c ∷ d ∷ s) = listedOf (wordAt (a ∷ b ∷ c ∷ d ∷ []) 0) ∷ listingOf s

@@ -1,10 +1,11 @@
--- The words of an input that comes in blocks: a word may begin in one block and end in another.
+-- The words of an input that comes in blocks: a word may begin in one block and end in another. What is printed for an input that comes so
+-- is its listing, however it is cut (`whole`, proofs/Whole).
 -- Assumes nothing: these are definitions.
-use Prim.Native.Nat.{ℕ, _+_, _*_, _/_, _%_}
+use Prim.Native.Nat.{ℕ, _+_, _*_, _%_}
 use mathlib.Core.Bool.{cond}
 use mathlib.Core.List.{List, [], _∷_, _++_}
 use lib.Dec.{eqb}
-use Rattle.otlist.specs.Listing.{listedOf}
+use Rattle.otlist.specs.Listing.{listedOf, shortLine}
 
 -- the last four bytes as a number, the first of them the highest, with one byte more
 abbrev pub wordAfter : ℕ → ℕ → ℕ
@@ -31,3 +32,12 @@ lastWord w (b ∷ s) = lastWord (wordAfter w b) s
 unfoldable pub lastCount : ℕ → List ℕ → ℕ
 lastCount n [] = n
 lastCount n (b ∷ s) = lastCount (countAfter n) s
+
+-- the last line, where n bytes of a word are over at the end
+unfoldable pub atEnd : ℕ → List (List ℕ)
+atEnd n = cond (eqb n 0) [] (shortLine ∷ [])
+
+-- what is printed for blocks one after the other, where n bytes of a word came before them, at the end of w
+unfoldable pub printedFor : ℕ → ℕ → List (List ℕ) → List (List ℕ)
+printedFor w n [] = atEnd n
+printedFor w n (s ∷ blocks) = linesIn w n s ++ printedFor (lastWord w s) (lastCount n s) blocks

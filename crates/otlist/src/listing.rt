@@ -1,27 +1,15 @@
-// One line of the listing from one word.
+// One line of the listing from one word, and the line for a tail that is none.
 use text::Text;
 ghost use mathlib.Core.Path.{_≡_};
-ghost use Prim.Native.Nat.{_<_, _≤_, _+_};
+ghost use Prim.Native.Nat.{_<_, _+_};
 ghost use Rattle.text.specs.Text.{emptyText, puts};
-ghost use Rattle.otlist.specs.Listing.{nameOf, signedOf, listedNumbers, listedFields, listedOf};
-
-fn name(t: Text, kind: u8) -> Text
-    ensures { λ r. ⌜ r ≡ puts t (nameOf kind) ⌝ }
-{
-    match kind {
-        1 => t.put(b"real"),
-        2 => t.put(b"s16"),
-        3 => t.put(b"u16"),
-        4 => t.put(b"pair"),
-        5 => t.put(b"spair"),
-        _ => t.put(b"raw"),
-    }
-}
+ghost use Rattle.ids.specs.Signed.{signed as signedBy};
+ghost use Rattle.otlist.specs.Listing.{signedDecimal, listedNumbers, listedFields, listedOf, shortLine};
 
 fn signed(t: Text, half: u32, n: u32) -> Text
     requires { ⌜ n < half + half ⌝ }
-    requires { ⌜ half ≤ 0x8000 ⌝ }
-    ensures { λ r. ⌜ r ≡ puts t (signedOf half n) ⌝ }
+    requires { ⌜ half < 0x8000_0000 ⌝ }
+    ensures { λ r. ⌜ r ≡ puts t (signedDecimal (signedBy half n)) ⌝ }
 {
     if n < half {
         t.decimal(n as u64)
@@ -56,7 +44,7 @@ fn fields(t: Text, w: u32) -> Text
     let a = t.decimal(word::type_of(w) as u64).push(b' ');
     let b = a.decimal(id as u64).push(b' ');
     let c = b.hex(value as u32, 4).push(b' ');
-    let d = name(c, kind).push(b' ');
+    let d = kinds::name(c, kind).push(b' ');
     numbers(d, kind, value).push(b'\n')
 }
 
@@ -68,4 +56,10 @@ pub(crate) fn line(w: u32) -> Text
     } else {
         Text::empty().put(b"- parity\n")
     }
+}
+
+pub(crate) fn short() -> Text
+    ensures { λ r. ⌜ r ≡ puts emptyText shortLine ⌝ }
+{
+    Text::empty().put(b"- short\n")
 }

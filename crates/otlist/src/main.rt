@@ -3,8 +3,8 @@ mod listing;
 mod words;
 
 use libc::STDIN_FILENO;
-use libc::STDOUT_FILENO;
 use words::Part;
+use words::add_end;
 use words::take;
 
 // One read, and the lines of the words that are whole then, written before the next read.
@@ -24,9 +24,9 @@ fn list_some(part: Part) -> Part {
 }
 
 fn end(count: u8) {
-    if count != 0 {
-        io::write_all(STDOUT_FILENO, b"- short\n");
-    }
+    let mut page = io::buffer();
+    let used = add_end(&mut page, 0, count);
+    print::flush(&page, used);
 }
 
 // A proved loop has to end, and nothing says that the input does: the turns count down from a number that no run uses up.

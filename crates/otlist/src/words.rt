@@ -1,8 +1,9 @@
 // The words in a block of bytes, and their lines on a page. A word may have begun in an earlier block and may end in a later one.
 use crate::listing::line;
+use crate::listing::short;
 ghost use mathlib.Core.Path.{_≡_};
 ghost use Rattle.print.specs.Page.{page as pageOf, allAdded};
-ghost use Rattle.otlist.specs.Words.{wordAfter, countAfter, lineIf, linesIn, lastWord, lastCount};
+ghost use Rattle.otlist.specs.Words.{wordAfter, countAfter, lineIf, linesIn, lastWord, lastCount, atEnd};
 
 // The last four bytes as a number, how many bytes of a word have come, how much of the page is used, and whether there may be more to read.
 pub(crate) struct Part {
@@ -55,4 +56,14 @@ pub(crate) fn take(block: &[u8], part: Part, page: &mut [u8]) -> Part
         used: used,
         more: true,
     }
+}
+
+// The line for a word that has begun and does not end.
+pub(crate) fn add_end(page: &mut [u8], used: usize, count: u8) -> usize
+    ensures { λ r. ⌜ pageOf (now (page .exit)) r ≡ allAdded (pageOf (now (page .entry)) used) (atEnd count) ⌝ }
+{
+    if count == 0 {
+        return used;
+    }
+    print::add(page, used, short())
 }

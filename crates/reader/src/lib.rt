@@ -5,7 +5,7 @@ pub use samples::Phase;
 use word::Frame;
 ghost use mathlib.Core.Path.{_≡_};
 ghost use mathlib.Core.Bool.{Bool·beq};
-ghost use Prim.Native.Nat.{_+_};
+ghost use Prim.Native.Nat.{_+_, _<_};
 ghost use Rattle.reader.specs.Reads.{readerOf, stepIs};
 ghost use Rattle.samples.specs.declared.Phase.the-variants.{Bits};
 ghost use Rattle.samples.specs.Reading.{freshOf, goesOn, gives, waitedOf, startOf, pastEdge, fartherOf, bitOf, middleOf, nextOf, stepOf};
@@ -187,7 +187,7 @@ fn same(a: bool, b: bool) -> bool
 }
 
 fn bit_of(active: bool) -> u32
-    ensures { λ r. ⌜ r ≡ bitOf active ⌝ }
+    ensures { λ r. ⌜ (r ≡ bitOf active) × (r < 2) ⌝ }
 {
     if active { 0 } else { 1 }
 }

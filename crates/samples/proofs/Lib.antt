@@ -1,6 +1,7 @@
 -- The laws of reading and writing samples, and the promises: ReadBack and Again (what is written is read; nothing older than the last
--- answer is kept), Tolerant (errors don't add up), Only (nothing else is read), Bounds and Tried (P11 and the other bounds), Room (a
--- lent room). The code that keeps to the rules: the crates reader and writer.
+-- answer is kept), Tolerant (errors don't add up), Only (nothing else is read), Bounds and Tried (what is refused, with its number; P11
+-- and the other tried distances), Recovers (no reader stays deaf), Room (a lent room). The code that keeps to the rules: the crates
+-- reader and writer.
 pub mod Cases
 pub mod Steps
 pub mod Runs
@@ -15,3 +16,5 @@ pub mod ToldEdge
 pub mod Only
 pub mod Bounds
 pub mod Tried
+pub mod Settles
+pub mod Recovers

@@ -17,10 +17,10 @@ use Rattle.samples.specs.Reader.{Reader, Step}
 use Rattle.samples.specs.Answers.{frame}
 use Rattle.samples.specs.Reading.{freshOf, stepOf}
 use Rattle.samples.specs.Run.{answersOf, none, Last}
-use Rattle.samples.specs.Edges.{levelOf, Stretch, plain, crossed, AllAllowed, levelAfter, levelsOf, wordIn, Heard}
+use Rattle.samples.specs.Edges.{levelOf, Stretch, plain, crossed, AllAllowed, levelAfter, legSamples, levelsOf, wordIn, Heard}
 use Rattle.samples.proofs.Cases.{bad-sample}
-use Rattle.samples.proofs.Stretches.{not-not, md, mid, same-level, at-second, at-early, at-gap, at-24, at-other, legSamples, legEnd}
-use Rattle.samples.proofs.Told.{Open, Told, waits, starts, follows, Next, goes, refuses, snoc, behind, wait-next, start-next}
+use Rattle.samples.proofs.Stretches.{not-not, md, mid, same-level, at-second, at-early, at-gap, at-24, at-other, Open, legEnd}
+use Rattle.samples.proofs.Told.{Told, waits, starts, follows, Next, goes, refuses, snoc, behind, wait-next, start-next}
 use Rattle.samples.proofs.ToldEdge.{edge-next}
 
 -- a sample of the level that is there, of the other level, or of neither
@@ -55,7 +55,7 @@ module _ (h b : List ℕ) (s : ℕ) (l : List Stretch) (hs : (8 ≤ s) × (s ≤
     at x = stepOf (mid k (wordIn l) (d - 1) c false) x
 
     plain-same : Dec (d < 24) → Next h (levelOf c) (at (levelOf c))
-    plain-same (no g) = refuses h (levelOf c) _ 2 (at-24 k (wordIn l) (d - 1) c false c (omega arith))
+    plain-same (no g) = refuses h (levelOf c) _ (at-24 k (wordIn l) (d - 1) c false c (omega arith))
     plain-same (yes g) =
         let n : d - 1 + 1 ≡ d + 1 - 1 = omega arith in
         goes h (levelOf c) _ (Bits (md k (wordIn l) (d - 1 + 1) c false)) (same-level k (wordIn l) (d - 1) c false (omega arith))
@@ -64,7 +64,7 @@ module _ (h b : List ℕ) (s : ℕ) (l : List Stretch) (hs : (8 ≤ s) × (s ≤
         (ap (λ (m : ℕ). mid k (wordIn l) m c false) n))
 
     plain-edge : Dec (d < 8) → Dec (d < 15) → Dec (d < 18) → Dec (d < 24) → Next h (levelOf (not c)) (at (levelOf (not c)))
-    plain-edge (yes g) q u v = refuses h (levelOf (not c)) _ 1 (at-early k (wordIn l) (d - 1) c false (omega arith))
+    plain-edge (yes g) q u v = refuses h (levelOf (not c)) _ (at-early k (wordIn l) (d - 1) c false (omega arith))
     plain-edge (no g) (yes q) u v =
         let n : d - 1 + 1 ≡ d + 1 - 1 = omega arith in
         let one : 1 ≡ d + 1 - d = omega arith in
@@ -73,15 +73,15 @@ module _ (h b : List ℕ) (s : ℕ) (l : List Stretch) (hs : (8 ≤ s) × (s ≤
         (further (plain d) (levelOf (not c)) (crossed d (d + 1)) e
         (ap (λ (m : ℕ). replicate (d - 1) (levelOf c) ++ replicate m (levelOf (not c))) one))
         (ap (λ (m : ℕ). mid k (wordIn l) m (not c) true) n))
-    plain-edge (no g) (no q) (yes u) v = refuses h (levelOf (not c)) _ 1 (at-gap k (wordIn l) (d - 1) c false (omega arith) (omega arith))
+    plain-edge (no g) (no q) (yes u) v = refuses h (levelOf (not c)) _ (at-gap k (wordIn l) (d - 1) c false (omega arith) (omega arith))
     plain-edge (no g) (no q) (no u) (yes v) = edge-next h b s l (plain d) hs hl len e (omega arith, omega arith)
-    plain-edge (no g) (no q) (no u) (no v) = refuses h (levelOf (not c)) _ 2 (at-24 k (wordIn l) (d - 1) c false (not c) (omega arith))
+    plain-edge (no g) (no q) (no u) (no v) = refuses h (levelOf (not c)) _ (at-24 k (wordIn l) (d - 1) c false (not c) (omega arith))
 
     plain-next : (x : ℕ) → Next h x (at x)
     plain-next x = go (level c x)
       where
         go : ((x ≡ levelOf c) ⊎ (x ≡ levelOf (not c))) ⊎ (2 ≤ x) → Next h x (at x)
-        go (inr g) = refuses h x _ 4 (bad-sample (mid k (wordIn l) (d - 1) c false) x g)
+        go (inr g) = refuses h x _ (bad-sample (mid k (wordIn l) (d - 1) c false) x g)
         go (inl (inl f)) = subst (λ (q : ℕ). Next h q (at q)) (sym f) (plain-same (decLt d 24))
         go (inl (inr f)) = subst (λ (q : ℕ). Next h q (at q)) (sym f) (plain-edge (decLt d 8) (decLt d 15) (decLt d 18) (decLt d 24))
 
@@ -91,7 +91,7 @@ module _ (h b : List ℕ) (s : ℕ) (l : List Stretch) (hs : (8 ≤ s) × (s ≤
     at' x = stepOf (mid k (wordIn l) (d - 1) (not c) true) x
 
     crossed-same : Dec (d < 24) → Next h (levelOf (not c)) (at' (levelOf (not c)))
-    crossed-same (no g) = refuses h (levelOf (not c)) _ 2 (at-24 k (wordIn l) (d - 1) (not c) true (not c) (omega arith))
+    crossed-same (no g) = refuses h (levelOf (not c)) _ (at-24 k (wordIn l) (d - 1) (not c) true (not c) (omega arith))
     crossed-same (yes g) =
         let n : d - 1 + 1 ≡ d + 1 - 1 = omega arith in
         let m : d - q + 1 ≡ d + 1 - q = omega arith in
@@ -103,17 +103,17 @@ module _ (h b : List ℕ) (s : ℕ) (l : List Stretch) (hs : (8 ≤ s) × (s ≤
         (ap (λ (j : ℕ). mid k (wordIn l) j (not c) true) n))
 
     crossed-edge : Dec (d < 18) → Dec (d < 24) → Next h (levelOf (not (not c))) (at' (levelOf (not (not c))))
-    crossed-edge (yes u) v = refuses h (levelOf (not (not c))) _ 1 (at-second k (wordIn l) (d - 1) (not c) true (omega arith) refl)
+    crossed-edge (yes u) v = refuses h (levelOf (not (not c))) _ (at-second k (wordIn l) (d - 1) (not c) true (omega arith) refl)
     crossed-edge (no u) (yes v) =
         subst (λ (a : Bool). Next h (levelOf a) (at' (levelOf a))) (sym (not-not c))
         (edge-next h b s l (crossed q d) hs hl len e (omega arith, omega arith, omega arith, omega arith))
-    crossed-edge (no u) (no v) = refuses h (levelOf (not (not c))) _ 2 (at-24 k (wordIn l) (d - 1) (not c) true (not (not c)) (omega arith))
+    crossed-edge (no u) (no v) = refuses h (levelOf (not (not c))) _ (at-24 k (wordIn l) (d - 1) (not c) true (not (not c)) (omega arith))
 
     crossed-next : (x : ℕ) → Next h x (at' x)
     crossed-next x = go (level (not c) x)
       where
         go : ((x ≡ levelOf (not c)) ⊎ (x ≡ levelOf (not (not c)))) ⊎ (2 ≤ x) → Next h x (at' x)
-        go (inr g) = refuses h x _ 4 (bad-sample (mid k (wordIn l) (d - 1) (not c) true) x g)
+        go (inr g) = refuses h x _ (bad-sample (mid k (wordIn l) (d - 1) (not c) true) x g)
         go (inl (inl f)) = subst (λ (y : ℕ). Next h y (at' y)) (sym f) (crossed-same (decLt d 24))
         go (inl (inr f)) = subst (λ (y : ℕ). Next h y (at' y)) (sym f) (crossed-edge (decLt d 18) (decLt d 24))
 

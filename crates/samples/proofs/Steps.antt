@@ -21,14 +21,14 @@ module _ (P : Step → Type 0) (on : (p : Phase) → P (goesOn p)) (word : (w : 
 
   middle : (m : Middle) (a : Bool) → P (middleOf m a)
   unfolding middleOf
-  middle m a = either (ltb (m .edges + 1) 34) _ _ (on _) (either a _ _ (refused 3 (omega arith) (omega arith)) (word _))
+  middle m a = either (ltb (m .edges + 1) 34) _ _ (on _) (either a _ _ (refused _ (omega arith) (omega arith)) (word _))
 
   start : (d : ℕ) (a : Bool) → P (startOf d a)
   unfolding startOf
   start d a =
       either (not a && within 8 14 d) _ _ (on _)
-      (either (not a && ltb d 8) _ _ (refused 1 (omega arith) (omega arith))
-      (either (ltb 14 d) _ _ (refused 2 (omega arith) (omega arith)) (on _)))
+      (either (not a && ltb d 8) _ _ (refused _ (omega arith) (omega arith))
+      (either (ltb 14 d) _ _ (refused _ (omega arith) (omega arith)) (on _)))
 
   next : (m : Middle) (d : ℕ) (a : Bool) → P (nextOf m d a)
   unfolding nextOf
@@ -36,8 +36,8 @@ module _ (P : Step → Type 0) (on : (p : Phase) → P (goesOn p)) (word : (w : 
       let edge = not (Bool·beq a (m .active)) in
       either (edge && within 18 23 d) _ _ (middle m a)
       (either (edge && (not (m .other) && within 8 14 d)) _ _ (on _)
-      (either (edge && leb d 17) _ _ (refused 1 (omega arith) (omega arith))
-      (either (ltb 23 d) _ _ (refused 2 (omega arith) (omega arith)) (on _))))
+      (either (edge && leb d 17) _ _ (refused _ (omega arith) (omega arith))
+      (either (ltb 23 d) _ _ (refused _ (omega arith) (omega arith)) (on _))))
 
   taken : (p : Phase) (a : Bool) → P (takenBy p a)
   taken (Waiting n) a = on _
@@ -46,4 +46,4 @@ module _ (P : Step → Type 0) (on : (p : Phase) → P (goesOn p)) (word : (w : 
 
   pub every : (r : Reader) (s : ℕ) → P (stepOf r s)
   unfolding stepOf
-  every r s = either (leb 2 s) _ _ (refused 4 (omega arith) (omega arith)) (taken (r .phase) (eqb s 1))
+  every r s = either (leb 2 s) _ _ (refused _ (omega arith) (omega arith)) (taken (r .phase) (eqb s 1))

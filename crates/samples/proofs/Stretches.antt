@@ -14,15 +14,17 @@ use Rattle.samples.specs.Reader.{Reader}
 use Rattle.samples.specs.Answers.{early, late}
 use Rattle.samples.specs.Reading.{freshOf, gives, goesOn, bitOf, middleOf, nextOf, waitedOf, stepOf}
 use Rattle.samples.specs.Run.{answersOf, afterOf}
-use Rattle.samples.specs.Edges.{levelOf, Stretch, plain, crossed, Allowed, AllAllowed, turned, levelAfter, stretchSamples, stretchesSamples}
-use Rattle.samples.specs.Edges.{levelsOf, edgeBits, numberFrom}
+use Rattle.samples.specs.Edges.{levelOf, Stretch, plain, crossed, Allowed, AllAllowed, turned, levelAfter, legSamples, stretchSamples}
+use Rattle.samples.specs.Edges.{stretchesSamples, levelsOf, edgeBits, numberFrom}
 use Rattle.samples.proofs.Cases.{idle-enough, first-edge, start-on, start-middle, no-edge, other-edge, middle-edge, second-other, before-8}
 use Rattle.samples.proofs.Cases.{past-14, too-late, next-bit, bit-small, a-sample}
 use Rattle.samples.proofs.Runs.{Quiet, stay, join, one}
 
+-- after 24 idle samples
 abbrev pub armed : Reader
 armed = record { phase = Waiting 24 }
 
+-- d samples past a middle edge, the k-th
 abbrev pub md : ℕ → ℕ → ℕ → Bool → Bool → Middle
 md k w d a o = record { edges = k; word = w; distance = d; active = a; other = o }
 
@@ -74,11 +76,16 @@ hold k w o a (suc n) d h =
     let z : d + suc n ≡ d + 1 + n = omega arith in
     rw z (join (one (levelOf a) (same-level k w d a o (omega arith))) (hold k w o a n (d + 1) (omega arith)))
 
--- all but the last of a stretch's samples, and the reader before that last one
-abbrev pub legSamples : Bool → Stretch → List ℕ
-legSamples a (plain d) = replicate (d - 1) (levelOf a)
-legSamples a (crossed e d) = replicate (e - 1) (levelOf a) ++ replicate (d - e) (levelOf (not a))
+-- a stretch whose middle edge hasn't come: the next sample is at its distance
+abbrev pub Open : Stretch → Type 0
+Open (plain d) = (1 ≤ d) × (d ≤ 24)
+Open (crossed e d) = (8 ≤ e) × (e ≤ 14) × (e < d) × (d ≤ 24)
 
+pub allowed-open : (t : Stretch) → Allowed t → Open t
+allowed-open (plain d) h = (omega arith, omega arith)
+allowed-open (crossed e d) h = (omega arith, omega arith, omega arith, omega arith)
+
+-- the reader before the last of a stretch's samples
 abbrev pub afterLeg : ℕ → ℕ → Bool → Stretch → Middle
 afterLeg k w a (plain d) = md k w (d - 1) a false
 afterLeg k w a (crossed e d) = md k w (d - 1) (not a) true
@@ -86,11 +93,7 @@ afterLeg k w a (crossed e d) = md k w (d - 1) (not a) true
 abbrev pub legEnd : ℕ → ℕ → Bool → Stretch → Reader
 legEnd k w a t = record { phase = Bits (afterLeg k w a t) }
 
-pub leg-last : (a : Bool) (t : Stretch) → stretchSamples a t ≡ legSamples a t ++ (levelOf (turned a t) ∷ [])
-leg-last a (plain d) = refl
-leg-last a (crossed e d) = sym (append-assoc (replicate (e - 1) (levelOf a)) (replicate (d - e) (levelOf (not a))) (levelOf a ∷ []))
-
-pub leg : (k w : ℕ) (a : Bool) (t : Stretch) → Allowed t → Quiet (mid k w 0 a false) (legSamples a t) (legEnd k w a t)
+pub leg : (k w : ℕ) (a : Bool) (t : Stretch) → Open t → Quiet (mid k w 0 a false) (legSamples a t) (legEnd k w a t)
 leg k w a (plain d) h = let e : 0 + (d - 1) ≡ d - 1 = omega arith in rw e at (hold k w false a (d - 1) 0 (omega arith))
 leg k w a (crossed e d) h =
     let u : 0 + (e - 1) ≡ e - 1 = omega arith in
@@ -123,7 +126,7 @@ stretch : (k w : ℕ) (a : Bool) (t : Stretch) → Allowed t → k < 33
 stretch k w a t h l =
     let s : stepOf (legEnd k w a t) (levelOf (turned a t)) ≡ goesOn (Bits (md (k + 1) (shift w (turned a t)) 0 (turned a t) false)) =
     leg-edge k w a t h ∙ bit t in
-    rw leg-last (join (leg k w a t h) (one (levelOf (turned a t)) s))
+    join (leg k w a t (allowed-open t h)) (one (levelOf (turned a t)) s)
   where
     bit : (t : Stretch) → middleOf (afterLeg k w a t) (turned a t) ≡ goesOn (Bits (md (k + 1) (shift w (turned a t)) 0 (turned a t) false))
     bit (plain d) = next-bit (afterLeg k w a (plain d)) (not a) l
@@ -185,12 +188,16 @@ start-bit s g h =
     a-sample (starting (s - 1)) 0 (omega arith) ∙ start-middle (s - 1 + 1) (omega arith) (omega arith) in
     join (first-half s (omega arith) (omega arith)) (one 0 e)
 
--- a line up to a middle edge before the 34th
+-- a line up to a middle edge before the 34th, and past it
 module _ (n s : ℕ) (l : List Stretch) (gs : 8 ≤ s) (hs : s ≤ 14) (hl : AllAllowed l) (len : length l ≤ 32) where
-  pub quiet-line : Quiet freshOf (levelsOf n s l) (mid (1 + length l) (shiftedBy 0 false l) 0 (levelAfter false l) false)
+  quiet-line : Quiet freshOf (levelsOf n s l) (mid (1 + length l) (shiftedBy 0 false l) 0 (levelAfter false l) false)
   quiet-line =
       let q = join (idle n) (join (start-bit s gs hs) (stretches 1 0 false l hl (omega arith))) in
       rw (append-assoc (replicate s 1) (0 ∷ []) (stretchesSamples false l)) at q
+
+  pub quiet-leg : (t : Stretch) → Open t
+      → Quiet freshOf (levelsOf n s l ++ legSamples (levelAfter false l) t) (legEnd (1 + length l) (shiftedBy 0 false l) (levelAfter false l) t)
+  quiet-leg t h = join quiet-line (leg (1 + length l) (shiftedBy 0 false l) (levelAfter false l) t h)
 
 pub level-last : (a : Bool) (l : List Stretch) (t : Stretch) → levelAfter a (l ++ (t ∷ [])) ≡ turned (levelAfter a l) t
 level-last a [] t = refl

@@ -4,7 +4,7 @@
 use mathlib.Core.Path.{_≡_, refl, sym, ap, _∙_, subst}
 use mathlib.Core.Bool.{true, false}
 use mathlib.Core.List.{List, [], _∷_, _++_, append-assoc, append-nil}
-use Prim.Native.Nat.{ℕ, zero, suc, _+_, _-_, _≤_, _<_}
+use Prim.Native.Nat.{ℕ, zero, suc, _+_, _≤_, _<_}
 use native.Mathlib.Decide.{decLt}
 use native.Mathlib.Omega.{arith}
 use lib.ListN.{length, replicate, replicate-append-replicate}
@@ -16,14 +16,9 @@ use Rattle.samples.specs.declared.Answer.the-variants.{Nothing, Frame, R
 use Rattle.samples.specs.Reader.{Reader, Step}
 use Rattle.samples.specs.Answers.{frame}
 use Rattle.samples.specs.Reading.{gives, goesOn, pastEdge, stepOf}
-use Rattle.samples.specs.Edges.{Stretch, plain, crossed, AllAllowed, levelAfter, levelsOf, wordIn, Heard}
+use Rattle.samples.specs.Edges.{Stretch, plain, AllAllowed, levelAfter, legSamples, levelsOf, wordIn, Heard}
 use Rattle.samples.proofs.Cases.{more-idle, idle-enough, too-soon, first-edge, start-late, start-on, start-early, start-middle, bad-sample, a-sample}
-use Rattle.samples.proofs.Stretches.{starting, legSamples, legEnd}
-
--- a stretch whose middle edge hasn't come: the next sample is at its distance
-abbrev pub Open : Stretch → Type 0
-Open (plain d) = (1 ≤ d) × (d ≤ 24)
-Open (crossed e d) = (8 ≤ e) × (e ≤ 14) × (e < d) × (d ≤ 24)
+use Rattle.samples.proofs.Stretches.{starting, Open, legEnd}
 
 -- the samples h came since the last answer, and the reader is r: it waits, and they end with n idle ones; it is in the start bit, and
 -- they end with 24 idle and d + 1 active ones; or it is past a middle edge, and they end with a line at 01's distances and what has come
@@ -51,8 +46,8 @@ module _ (h : List ℕ) (x : ℕ) (y : Step) where
     given = λ w f. clash (cc (ap (λ (q : Step). q .answer) e));
   }
 
-  pub refuses : (n : ℕ) → y ≡ gives (Refused n) → Next h x y
-  refuses n e = record {
+  pub refuses : {n : ℕ} → y ≡ gives (Refused n) → Next h x y
+  refuses e = record {
     on = λ f. clash (cc (ap (λ (q : Step). q .answer) e));
     given = λ w f. clash (cc (ap (λ (q : Step). q .answer) e));
   }
@@ -79,10 +74,10 @@ wait-next h b n zero g e = go (decLt n 24)
         (waits b (n + 1) (omega arith) (behind h b (replicate n 0) (replicate (n + 1) 0) 0 e (snoc n 0)) refl)
     go (no l) =
         let m : n ≡ 24 = omega arith in
+        let f : h ++ (0 ∷ []) ≡ b ++ (0 ∷ replicate 24 0) =
+        behind h b (replicate 24 0) (0 ∷ replicate 24 0) 0 (e ∙ ap (λ (k : ℕ). b ++ replicate k 0) m) refl in
         goes h 0 _ (Waiting 24) (a-sample (record { phase = Waiting n }) 0 (omega arith) ∙ ap goesOn (idle-enough n (omega arith)))
-        (waits (b ++ (0 ∷ [])) 24 (omega arith)
-        (behind h b (replicate 24 0) (0 ∷ replicate 24 0) 0 (e ∙ ap (λ (k : ℕ). b ++ replicate k 0) m) refl ∙ sym (append-assoc b (0 ∷ []) (replicate 24 0)))
-        refl)
+        (waits (b ++ (0 ∷ [])) 24 (omega arith) (f ∙ sym (append-assoc b (0 ∷ []) (replicate 24 0))) refl)
 wait-next h b n (suc zero) g e = go (decLt n 24)
   where
     go : Dec (n < 24) → Next h 1 (stepOf (record { phase = Waiting n }) 1)
@@ -93,10 +88,10 @@ wait-next h b n (suc zero) g e = go (decLt n 24)
         let m : n ≡ 24 = omega arith in
         goes h 1 _ (Start 0) (a-sample (record { phase = Waiting n }) 1 (omega arith) ∙ ap goesOn (first-edge n (omega arith)))
         (starts b 0 (behind h b (replicate 24 0) (replicate 24 0 ++ (1 ∷ [])) 1 (e ∙ ap (λ (k : ℕ). b ++ replicate k 0) m) refl) refl)
-wait-next h b n (suc (suc x)) g e = refuses h (suc (suc x)) _ 4 (bad-sample (record { phase = Waiting n }) (suc (suc x)) (omega arith))
+wait-next h b n (suc (suc x)) g e = refuses h (suc (suc x)) _ (bad-sample (record { phase = Waiting n }) (suc (suc x)) (omega arith))
 
 pub start-next : (h b : List ℕ) (d x : ℕ) → h ≡ b ++ (replicate 24 0 ++ replicate (d + 1) 1) → Next h x (stepOf (starting d) x)
-start-next h b d (suc (suc x)) e = refuses h (suc (suc x)) _ 4 (bad-sample (starting d) (suc (suc x)) (omega arith))
+start-next h b d (suc (suc x)) e = refuses h (suc (suc x)) _ (bad-sample (starting d) (suc (suc x)) (omega arith))
 start-next h b d (suc zero) e = go (decLt d 14)
   where
     go : Dec (d < 14) → Next h 1 (stepOf (starting d) 1)
@@ -106,12 +101,12 @@ start-next h b d (suc zero) e = go (decLt d 14)
         (behind h b (replicate 24 0 ++ replicate (d + 1) 1) (replicate 24 0 ++ replicate (d + 1 + 1) 1) 1 e
         (ap (λ (y : List ℕ). replicate 24 0 ++ y) (snoc (d + 1) 1)))
         refl)
-    go (no l) = refuses h 1 _ 2 (a-sample (starting d) 1 (omega arith) ∙ start-late (d + 1) true (omega arith))
+    go (no l) = refuses h 1 _ (a-sample (starting d) 1 (omega arith) ∙ start-late (d + 1) true (omega arith))
 start-next h b d zero e = go (decLt d 14) (decLt d 7)
   where
     go : Dec (d < 14) → Dec (d < 7) → Next h 0 (stepOf (starting d) 0)
-    go (no l) q = refuses h 0 _ 2 (a-sample (starting d) 0 (omega arith) ∙ start-late (d + 1) false (omega arith))
-    go (yes l) (yes q) = refuses h 0 _ 1 (a-sample (starting d) 0 (omega arith) ∙ start-early (d + 1) (omega arith))
+    go (no l) q = refuses h 0 _ (a-sample (starting d) 0 (omega arith) ∙ start-late (d + 1) false (omega arith))
+    go (yes l) (yes q) = refuses h 0 _ (a-sample (starting d) 0 (omega arith) ∙ start-early (d + 1) (omega arith))
     go (yes l) (no q) =
         goes h 0 _ (Bits (pastEdge 1 0 false)) (a-sample (starting d) 0 (omega arith) ∙ start-middle (d + 1) (omega arith) (omega arith))
         (follows b (d + 1) [] (plain 1) (omega arith, omega arith) tt (omega arith) (omega arith, omega arith)

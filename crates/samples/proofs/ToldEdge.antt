@@ -3,18 +3,17 @@
 use mathlib.Core.Path.{_≡_, refl, sym, ap, ap₂, _∙_}
 use mathlib.Core.Bool.{Bool, true, false}
 use mathlib.Core.List.{List, [], _∷_, _++_, append-assoc, append-nil}
-use Prim.Native.Nat.{ℕ, _+_, _-_, _≤_, _<_}
+use Prim.Native.Nat.{ℕ, _+_, _≤_, _<_}
 use native.Mathlib.Decide.{decLt}
 use native.Mathlib.Omega.{arith}
 use lib.ListN.{length, length-append}
 use Rattle.samples.specs.declared.Phase.the-variants.{Bits}
-use Rattle.samples.specs.declared.Answer.the-variants.{Refused}
 use Rattle.samples.specs.Reader.{Step}
-use Rattle.samples.specs.Answers.{frame}
+use Rattle.samples.specs.Answers.{no-stop, frame}
 use Rattle.samples.specs.Reading.{gives, goesOn, pastEdge, middleOf, stepOf}
-use Rattle.samples.specs.Edges.{levelOf, Stretch, plain, crossed, Allowed, AllAllowed, turned, levelAfter, levelsOf, wordIn}
+use Rattle.samples.specs.Edges.{levelOf, Stretch, plain, crossed, Allowed, AllAllowed, turned, levelAfter, legSamples, levelsOf, wordIn}
 use Rattle.samples.proofs.Cases.{next-bit, stop-rises, stop-falls}
-use Rattle.samples.proofs.Stretches.{level-last, all-allowed, mid, legSamples, afterLeg, legEnd, leg-last, leg-edge, shift, shiftedBy}
+use Rattle.samples.proofs.Stretches.{level-last, all-allowed, mid, afterLeg, legEnd, leg-edge, shift, shiftedBy}
 use Rattle.samples.proofs.Stretches.{word-after, line-last}
 use Rattle.samples.proofs.Told.{follows, Next, goes, refuses, ends, behind}
 
@@ -45,7 +44,7 @@ module _ (h b : List ℕ) (s : ℕ) (l : List Stretch) (t : Stretch) (hs : (8 �
   longer : h ++ (x ∷ []) ≡ b ++ levelsOf 0 s (l ++ (t ∷ []))
   longer =
       behind h b (levelsOf 0 s l ++ legSamples c t) (levelsOf 0 s (l ++ (t ∷ []))) x e
-      (append-assoc (levelsOf 0 s l) (legSamples c t) (x ∷ []) ∙ ap (λ (z : List ℕ). levelsOf 0 s l ++ z) (sym (leg-last c t)) ∙ sym (line-last 0 s l t))
+      (append-assoc (levelsOf 0 s l) (legSamples c t) (x ∷ []) ∙ sym (line-last 0 s l t))
 
   edge : y ≡ middleOf (afterLeg (1 + length l) (wordIn l) c t) (turned c t)
   edge = leg-edge (1 + length l) (wordIn l) c t ht
@@ -54,7 +53,7 @@ module _ (h b : List ℕ) (s : ℕ) (l : List Stretch) (t : Stretch) (hs : (8 �
   next k w (plain d) a g = next-bit (afterLeg k w c (plain d)) a g
   next k w (crossed f d) a g = next-bit (afterLeg k w c (crossed f d)) a g
 
-  rises : (k w : ℕ) (t : Stretch) (a : Bool) → 33 ≤ k → a ≡ true → middleOf (afterLeg k w c t) a ≡ gives (Refused 3)
+  rises : (k w : ℕ) (t : Stretch) (a : Bool) → 33 ≤ k → a ≡ true → middleOf (afterLeg k w c t) a ≡ gives no-stop
   rises k w (plain d) a g f = stop-rises (afterLeg k w c (plain d)) a g f
   rises k w (crossed q d) a g f = stop-rises (afterLeg k w c (crossed q d)) a g f
 
@@ -73,7 +72,7 @@ module _ (h b : List ℕ) (s : ℕ) (l : List Stretch) (t : Stretch) (hs : (8 �
   edge-next = go (decLt (length l) 32)
     where
       last : length l ≡ 32 → (a : Bool) → turned c t ≡ a → Next h x y
-      last n true f = refuses h x y 3 (edge ∙ rises (1 + length l) (wordIn l) t (turned c t) (omega arith) f)
+      last n true f = refuses h x y (edge ∙ rises (1 + length l) (wordIn l) t (turned c t) (omega arith) f)
       last n false f =
           ends h x y (wordIn l) (edge ∙ falls (1 + length l) (wordIn l) t (turned c t) (omega arith) f)
           (record {

@@ -1,5 +1,5 @@
 -- Errors don't add up: samples whose middle edges keep to 01's distances, each from the one before, are read as the word of those
--- edges, whatever their total length.
+-- edges, whatever their total length; or refused, where the 34th rises (for Bounds).
 -- Assumes nothing.
 use mathlib.Core.Path.{_≡_, refl, sym, ap, _∙_}
 use mathlib.Core.Bool.{Bool, true, false, cond}
@@ -10,10 +10,10 @@ use lib.ListN.{length, length-append}
 use Rattle.samples.specs.Answers.{frame, no-stop}
 use Rattle.samples.specs.Reading.{freshOf, gives, middleOf, stepOf}
 use Rattle.samples.specs.Run.{answersOf, afterOf, none, Last}
-use Rattle.samples.specs.Edges.{levelOf, Stretch, plain, crossed, Allowed, AllAllowed, turned, levelAfter, levelsOf, wordIn}
+use Rattle.samples.specs.Edges.{levelOf, Stretch, plain, crossed, Allowed, AllAllowed, turned, levelAfter, legSamples, levelsOf, wordIn}
 use Rattle.samples.proofs.Cases.{stop-rises, stop-falls}
-use Rattle.samples.proofs.Runs.{Quiet, join, ending, ending-after}
-use Rattle.samples.proofs.Stretches.{legSamples, afterLeg, legEnd, leg, leg-last, leg-edge, shiftedBy, word-after, quiet-line, line-last}
+use Rattle.samples.proofs.Runs.{Quiet, ending, ending-after}
+use Rattle.samples.proofs.Stretches.{allowed-open, afterLeg, legEnd, leg-edge, shiftedBy, word-after, quiet-leg, line-last}
 
 -- 24 idle samples or more, a start bit, 32 stretches, and the one to the 34th middle edge
 module _ (n s : ℕ) (l : List Stretch) (t : Stretch) (gs : 8 ≤ s) (hs : s ≤ 14) (hl : AllAllowed l) (ht : Allowed t) (len : length l ≡ 32) where
@@ -28,7 +28,7 @@ module _ (n s : ℕ) (l : List Stretch) (t : Stretch) (gs : 8 ≤ s) (hs : s ≤
 
   split : line ≡ before-last ++ (levelOf (turned a t) ∷ [])
   split =
-      line-last n s l t ∙ ap (λ (x : List ℕ). levelsOf n s l ++ x) (leg-last a t)
+      line-last n s l t
       ∙ sym (append-assoc (levelsOf n s l) (legSamples a t) (levelOf (turned a t) ∷ []))
 
   before-length : length before-last ≡ length line - 1
@@ -37,7 +37,7 @@ module _ (n s : ℕ) (l : List Stretch) (t : Stretch) (gs : 8 ≤ s) (hs : s ≤
       omega arith
 
   quiet : Quiet freshOf before-last (legEnd (1 + length l) (shiftedBy 0 false l) a t)
-  quiet = join (quiet-line n s l gs hs hl (omega arith)) (leg (1 + length l) (shiftedBy 0 false l) a t ht)
+  quiet = quiet-leg n s l gs hs hl (omega arith) t (allowed-open t ht)
 
   stop : (k w : ℕ) (t : Stretch) (b : Bool) → 33 ≤ k → middleOf (afterLeg k w a t) b ≡ gives (cond b no-stop (frame w))
   stop k w (plain d) true h = stop-rises (afterLeg k w a (plain d)) true h refl
@@ -60,8 +60,8 @@ module _ (n s : ℕ) (l : List Stretch) (t : Stretch) (gs : 8 ≤ s) (hs : s ≤
   pub tolerant : turned (levelAfter false l) t ≡ false → Last line (frame (wordIn l))
   tolerant falls = judged ∙ ap (λ (b : Bool). none (length line - 1) ++ (cond b no-stop (frame (wordIn l)) ∷ [])) falls
 
-  pub rising-stop : turned (levelAfter false l) t ≡ true → Last line no-stop
-  rising-stop rises = judged ∙ ap (λ (b : Bool). none (length line - 1) ++ (cond b no-stop (frame (wordIn l)) ∷ [])) rises
+  pub rising : turned (levelAfter false l) t ≡ true → Last line no-stop
+  rising rises = judged ∙ ap (λ (b : Bool). none (length line - 1) ++ (cond b no-stop (frame (wordIn l)) ∷ [])) rises
 
   pub fresh-again : afterOf freshOf line ≡ freshOf
   fresh-again = ap (afterOf freshOf) split ∙ ending-after (levelOf (turned a t)) (cond (turned a t) no-stop (frame (wordIn l))) quiet last

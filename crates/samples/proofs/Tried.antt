@@ -1,4 +1,4 @@
--- The tried distances, computed. Bounds has the same wherever in a frame, proved.
+-- The tried distances, computed. Tolerant and Bounds have the same wherever in a frame, proved.
 -- Assumes nothing.
 use mathlib.Core.Path.{refl}
 use Rattle.samples.specs.Reading.{waitedOf, startOf, middleOf, nextOf, stepOf}

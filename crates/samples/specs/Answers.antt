@@ -1,4 +1,4 @@
--- The answers of the sample reader, with 01's numbers ('Numbered answers'). Rules and promises name them.
+-- The answers of the sample reader, with 01's numbers ('Numbered answers'). The rules name them; the promises say the numbers themselves.
 -- Assumes nothing: these are definitions.
 use Prim.Native.Nat.{ℕ}
 use Rattle.samples.specs.declared.Answer.{Answer}

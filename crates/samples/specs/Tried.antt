@@ -4,7 +4,8 @@ use mathlib.Core.List.{List, [], _∷_, _++_}
 use Prim.Native.Nat.{ℕ}
 use lib.ListN.{replicate}
 use Rattle.samples.specs.declared.Answer.{Answer}
-use Rattle.samples.specs.Answers.{early, late, frame}
+use Rattle.samples.specs.declared.Answer.the-variants.{Refused}
+use Rattle.samples.specs.Answers.{frame}
 use Rattle.samples.specs.Run.{Last}
 use Rattle.samples.specs.Edges.{plain, crossed, levelsOf}
 
@@ -23,14 +24,14 @@ fives s d = levelsOf 0 s (plain d ∷ replicate 31 (plain 20) ++ (crossed 10 20 
 
 -- "P11 a middle edge at 17 is refusal 1, at 18 and 23 good."
 abbrev pub p11-cases : List Try
-p11-cases = try (levelsOf 0 10 (plain 17 ∷ [])) early ∷ try (fives 10 18) (frame 0x5555_5555) ∷ try (fives 10 23) (frame 0x5555_5555) ∷ []
+p11-cases = try (levelsOf 0 10 (plain 17 ∷ [])) (Refused 1) ∷ try (fives 10 18) (frame 0x5555_5555) ∷ try (fives 10 23) (frame 0x5555_5555) ∷ []
 
 -- "start edge at 14 good, at 15 refusal 2; a middle edge at 24 refusal 2", at 15 and 24 for either level
 abbrev pub run-cases : List Try
 run-cases =
     try (fives 14 20) (frame 0x5555_5555)
-    ∷ try (replicate 24 0 ++ (replicate 15 1 ++ (0 ∷ []))) late
-    ∷ try (replicate 24 0 ++ (replicate 15 1 ++ (1 ∷ []))) late
-    ∷ try (levelsOf 0 10 [] ++ (replicate 23 0 ++ (1 ∷ []))) late
-    ∷ try (levelsOf 0 10 [] ++ (replicate 23 0 ++ (0 ∷ []))) late
+    ∷ try (replicate 24 0 ++ (replicate 15 1 ++ (0 ∷ []))) (Refused 2)
+    ∷ try (replicate 24 0 ++ (replicate 15 1 ++ (1 ∷ []))) (Refused 2)
+    ∷ try (levelsOf 0 10 [] ++ (replicate 23 0 ++ (1 ∷ []))) (Refused 2)
+    ∷ try (levelsOf 0 10 [] ++ (replicate 23 0 ++ (0 ∷ []))) (Refused 2)
     ∷ []

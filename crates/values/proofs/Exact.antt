@@ -4,17 +4,18 @@ use mathlib.Core.Path.{_≡_, sym, ap, _∙_, subst}
 use Prim.Native.Nat.{ℕ, zero, suc, _-_, _*_, _^_, _≤_, _<_, zero-le, suc-le-suc}
 use native.Mathlib.Nat.{mul-one, mul-assoc, mul-comm, mul-pos, lt-of-lt-of-le}
 use native.Mathlib.Omega.{arith}
-use mathlib.Core.Bool.{Bool, true, false, cond}
+use mathlib.Core.Bool.{Bool, true, false}
 use mathlib.Core.Logic.{_⊎_, inl, inr, ⊎-elim}
 use lib.Dec.{T, lit<, lit≤}
 use lib.Pow.{shl-lt}
-use borrow.Author.Tests.{le-leb, lt-leb}
-use lib.IntN.{pos}
+use lib.IntN.{ℤ, pos, natAbs}
 use lib.Ieee.{Float, nan, inf, fin, binary32, up, down, unlike, round, mul, div, ofInt, fits}
 use lib.Ieee.Exact.{HasValue, round-exact}
 use lib.Ieee.Scale.{round-same}
 use lib.Ieee.Fits.{down-pos, round-fits}
 use lib.Ieee.Back.{round-whole}
+use Rattle.ids.specs.Signed.{below0}
+use Rattle.ids.proofs.Signed.{signed-pos, signed-neg, signed-size}
 use Rattle.values.specs.Real.{realOf, negative, sized, ExactOf}
 
 -- a value over ±256
@@ -54,11 +55,13 @@ lt-or-ge (suc a) (suc b) = ⊎-elim (λ p. inl (suc-le-suc p)) (λ q. inr (suc-l
 -- ---- the two halves of the raw numbers
 pub real-pos : (raw : ℕ) → raw < 0x8000 → realOf raw ≡ round binary32 false raw 256
 unfolding realOf
-real-pos raw h = ap (λ (b : Bool). round binary32 b (cond b (0x1_0000 - raw) raw) 256) (lt-leb _ _ h)
+real-pos raw h = ap (λ (z : ℤ). round binary32 (below0 z) (natAbs z) 256) (signed-pos 0x8000 raw h)
 
-pub real-neg : (raw : ℕ) → 0x8000 ≤ raw → realOf raw ≡ round binary32 true (0x1_0000 - raw) 256
+pub real-neg : (raw : ℕ) → 0x8000 ≤ raw → raw < 0x1_0000 → realOf raw ≡ round binary32 true (0x1_0000 - raw) 256
 unfolding realOf
-real-neg raw h = ap (λ (b : Bool). round binary32 b (cond b (0x1_0000 - raw) raw) 256) (le-leb _ _ h)
+real-neg raw h k =
+    ap (λ (z : ℤ). round binary32 (below0 z) (natAbs z) 256) (signed-neg 0x8000 raw h)
+    ∙ ap (λ (n : ℕ). round binary32 true n 256) (signed-size 0x8000 raw k)
 
 -- nothing is rounded
 pub real-exact : (raw : ℕ) → raw < 0x1_0000 → ExactOf raw (realOf raw)
@@ -66,8 +69,8 @@ unfolding realOf
 real-exact raw h = exact-256 (negative raw) (sized raw) (go (lt-or-ge raw 0x8000))
   where
     go : (raw < 0x8000) ⊎ (0x8000 ≤ raw) → sized raw ≤ 0x8000
-    go (inl a) = subst (λ (b : Bool). cond b (0x1_0000 - raw) raw ≤ 0x8000) (sym (lt-leb _ _ a)) (omega arith)
-    go (inr a) = subst (λ (b : Bool). cond b (0x1_0000 - raw) raw ≤ 0x8000) (sym (le-leb _ _ a)) (omega arith)
+    go (inl a) = subst (λ (z : ℤ). natAbs z ≤ 0x8000) (sym (signed-pos 0x8000 raw a)) (omega arith)
+    go (inr a) = subst (λ (z : ℤ). natAbs z ≤ 0x8000) (sym (signed-neg 0x8000 raw a)) (omega arith)
 
 pub real-fits : (raw : ℕ) → T (fits binary32 (realOf raw))
 unfolding realOf

@@ -4,4 +4,5 @@ pub mod Sign
 pub mod Floats
 pub mod Trip
 pub mod Refusals
+mod Tried
 mod Determined

@@ -22,7 +22,7 @@ refuse x f g r b =
     none-refused x r b
     (λ raw h e.
     ⊎-elim (λ p. f raw p (subst (λ (y : Float). HasValue y false raw 256) (sym e) (value-pos raw p)))
-    (λ p. g (0x1_0000 - raw) (omega arith) (subst (λ (y : Float). HasValue y true (0x1_0000 - raw) 256) (sym e) (value-neg raw p)))
+    (λ p. g (0x1_0000 - raw) (omega arith) (subst (λ (y : Float). HasValue y true (0x1_0000 - raw) 256) (sym e) (value-neg raw p h)))
     (lt-or-ge raw 0x8000))
 
 pub refuse-nan : (r : Back) → BackOf (ofBits binary32 0x7fc0_0000) r → backValue r ≡ refused 10

@@ -2,17 +2,19 @@
 -- Assumes nothing.
 use mathlib.Core.Path.{_≡_, refl, sym, ap, ap₂, _∙_}
 use mathlib.Core.Bool.{Bool, true, false, cond}
+use mathlib.Core.List.{[]}
 use Prim.Native.Nat.{ℕ, _+_, _*_, _/_, _%_, _<_}
-use native.Mathlib.Nat.{div-add-mod'}
 use native.Mathlib.Omega.{arith}
 use lib.Dec.{eqb}
 use lib.Ieee.{Float}
 use mir.Syntax.{w8, w16}
-use mir.Val.{toZ}
 use mir.ValLaws.{ofZ-toZ}
 use Rattle.word.specs.Numbers.{Valued, valued, refused}
 use Rattle.word.proofs.Clash.{clash}
+use Rattle.places.specs.Bytes.{pairAt}
+use Rattle.places.proofs.Place.{pair-back}
 use Rattle.ids.specs.Ids.{kindOf}
+use Rattle.ids.specs.Signed.{signed16, signed8}
 use Rattle.values.specs.Real.{realOf, BackOf}
 use Rattle.values.specs.Typed.{readAs, BitsOf}
 use Rattle.values.specs.Numbers.{backValue}
@@ -22,21 +24,21 @@ use Rattle.values.specs.declared.Typed.{Typed}
 use Rattle.values.specs.declared.Typed.the-variants.{Real, S16, U16, Pair, SPair, Raw}
 
 pub round-trip : (k raw : ℕ) → raw < 0x1_0000 → (r : Back) → BitsOf (readAs k raw) r → r ≡ Bits raw
-unfolding readAs
+unfolding readAs pairAt
 round-trip k raw h r = go (eqb k 1) (eqb k 2) (eqb k 3) (eqb k 4) (eqb k 5)
   where
     go : (a b c d e : Bool)
-        → BitsOf (cond a (Real (realOf raw)) (cond b (S16 (toZ w16 raw)) (cond c (U16 raw)
-        (cond d (Pair (raw / 256) (raw % 256)) (cond e (SPair (toZ w8 (raw / 256)) (toZ w8 (raw % 256))) (Raw raw)))))) r
+        → BitsOf (cond a (Real (realOf raw)) (cond b (S16 (signed16 raw)) (cond c (U16 raw)
+        (cond d (Pair (raw / 256) (raw % 256)) (cond e (SPair (signed8 (raw / 256)) (signed8 (raw % 256))) (Raw raw)))))) r
         → r ≡ Bits raw
     go true b c d e p = p .given raw h refl
     go false true c d e p = p ∙ ap Bits (ofZ-toZ w16 raw (omega arith))
     go false false true d e p = p
-    go false false false true e p = p ∙ ap Bits (div-add-mod' raw 256)
+    go false false false true e p = p ∙ ap Bits (pair-back [] [] raw)
     go false false false false true p =
         p
         ∙ ap₂ (λ (x y : ℕ). Bits (x * 256 + y)) (ofZ-toZ w8 (raw / 256) (omega arith)) (ofZ-toZ w8 (raw % 256) (omega arith))
-        ∙ ap Bits (div-add-mod' raw 256)
+        ∙ ap Bits (pair-back [] [] raw)
     go false false false false false p = p
 
 -- two answers that are the same in 01's numbers are equal

@@ -2,20 +2,21 @@
 -- plus zero."
 -- Assumes nothing: these are definitions.
 use mathlib.Core.Path.{_≡_}
-use Prim.Native.Nat.{ℕ, _-_, _<_}
-use mathlib.Core.Bool.{Bool, cond}
-use lib.Dec.{leb}
+use Prim.Native.Nat.{ℕ, _<_}
+use mathlib.Core.Bool.{Bool}
+use lib.IntN.{natAbs}
 use lib.Ieee.{Float, binary32, round}
 use lib.Ieee.Exact.{HasValue}
+use Rattle.ids.specs.Signed.{signed16, below0}
 use Rattle.values.specs.declared.Back.{Back}
 use Rattle.values.specs.declared.Back.the-variants.{Bits, Refused}
 
--- the 16 bits as a signed number: its sign and its size
+-- the signed raw number: its sign and its size
 abbrev pub negative : ℕ → Bool
-negative raw = leb 0x8000 raw
+negative raw = below0 (signed16 raw)
 
 abbrev pub sized : ℕ → ℕ
-sized raw = cond (negative raw) (0x1_0000 - raw) raw
+sized raw = natAbs (signed16 raw)
 
 -- the float nearest to it over 256
 unfoldable pub realOf : ℕ → Float

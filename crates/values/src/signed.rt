@@ -1,10 +1,11 @@
 // Numbers of 16 and of 8 bits read as signed, and back, by sums that fit.
 ghost use mathlib.Core.Path.{_≡_};
 ghost use mir.Syntax.{w8, w16};
-ghost use mir.Val.{toZ, ofZ};
+ghost use mir.Val.{ofZ};
+ghost use Rattle.ids.specs.Signed.{signed16, signed8};
 
 pub(crate) fn signed16(n: u16) -> i16
-    ensures { λ r. ⌜ r ≡ toZ w16 n ⌝ }
+    ensures { λ r. ⌜ r ≡ signed16 n ⌝ }
 {
     if n < 0x8000 {
         n as i16
@@ -14,7 +15,7 @@ pub(crate) fn signed16(n: u16) -> i16
 }
 
 pub(crate) fn signed8(n: u8) -> i8
-    ensures { λ r. ⌜ r ≡ toZ w8 n ⌝ }
+    ensures { λ r. ⌜ r ≡ signed8 n ⌝ }
 {
     if n < 0x80 {
         n as i8

@@ -26,14 +26,6 @@ either (c ∷ cs) = go (c .holds) refl (either cs)
     go false e rest = inl (c .number, here e)
 
 -- tests made after others
-pub then : (cs : List Check) {ds : List Check} {n : ℕ} → Passes cs → Fails ds n → Fails (cs ++ ds) n
-then [] none f = f
-then (c ∷ cs) (all e p) f = later e (then cs p f)
-
-pub sooner : {cs : List Check} (ds : List Check) {n : ℕ} → Fails cs n → Fails (cs ++ ds) n
-sooner ds (here e) = here e
-sooner ds (later e f) = later e (sooner ds f)
-
 pub joined : {cs ds : List Check} → Passes cs → Passes ds → Passes (cs ++ ds)
 joined none q = q
 joined (all e p) q = all e (joined p q)

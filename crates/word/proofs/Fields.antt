@@ -1,35 +1,36 @@
--- Laws of a built word: its readers give back what went in, its spare bits are 0, its parity is even.
+-- A word by its fields: every word has them, the readers give them back, and a word that is built has those that went in, spare bits 0,
+-- and even parity.
 -- Assumes nothing.
 use mathlib.Core.Path.{_≡_}
-use mathlib.Core.Bool.{true}
-use Prim.Native.Nat.{ℕ, _<_}
+use Prim.Native.Nat.{ℕ, _/_, _%_, _^_, _<_}
 use native.Mathlib.Omega.{arith}
-use borrow.Author.Tests.{le-ltb}
+use borrow.Author.Tests.{le-ltb, eqb-true}
+use native.Mathlib.Nat.{mod-lt}
+use lib.Count.{ones}
 use Rattle.word.specs.declared.Built.the-variants.{Word}
 use Rattle.word.specs.Frame.{typeOf, spareOf, idOf, valueOf, evenOf, bare, evened, builtOf}
-use Rattle.word.proofs.Parity.{evened-even}
+use Rattle.word.specs.Fields.{Fields, Fit, wordOf, Read, BuiltFrom}
+use Rattle.word.proofs.Parity.{two-pos, evened-even}
 
-module _ (t i v : ℕ) (ht : t < 8) (hi : i < 256) (hv : v < 65536) where
-  -- a type up to 7 is built
-  pub built : builtOf t i v ≡ Word (evened (bare t i v))
-  unfolding builtOf
-  built = let small = le-ltb 7 t (omega arith) in rw small
+pub fields : (f : Fields) → Fit f → Read f
+unfolding typeOf spareOf idOf valueOf
+fields f h = record { type = omega arith; spare = omega arith; id = omega arith; value = omega arith }
 
-  pub type-back : typeOf (evened (bare t i v)) ≡ t
-  unfolding typeOf
-  type-back = omega arith
+-- every word is that of its fields
+pub of-fields : (w : ℕ) → w < 2 ^ 32 → (f : Fields) × (Fit f × (wordOf f ≡ w))
+of-fields w h =
+    let x = w / 0x1_0000 in
+    let y = x / 256 in
+    let z = y / 16 in (
+      record { parity = z / 8; type = z % 8; spare = y % 16; id = x % 256; value = w % 0x1_0000 },
+      (record { one-bit = omega arith; three-bits = omega arith; four-bits = omega arith; a-byte = omega arith; two-bytes = omega arith }, omega arith),
+    )
 
-  pub spare-back : spareOf (evened (bare t i v)) ≡ 0
-  unfolding spareOf
-  spare-back = omega arith
-
-  pub id-back : idOf (evened (bare t i v)) ≡ i
-  unfolding idOf
-  id-back = omega arith
-
-  pub value-back : valueOf (evened (bare t i v)) ≡ v
-  unfolding valueOf
-  value-back = omega arith
-
-  pub even-back : evenOf (evened (bare t i v)) ≡ true
-  even-back = evened-even (bare t i v) (omega arith)
+-- a type up to 7 is built
+pub written : (t i v : ℕ) → t < 8 → i < 256 → v < 65536 → (w : ℕ) × ((builtOf t i v ≡ Word w) × BuiltFrom t i v w)
+unfolding builtOf evenOf
+written t i v ht hi hv =
+    let small = le-ltb 7 t (omega arith) in
+    let p = ones (bare t i v) % 2 in
+    let e = eqb-true (ones (evened (bare t i v)) % 2) 0 (evened-even (bare t i v) (omega arith)) in
+    (evened (bare t i v), (rw small, record { parity = p; one-bit = mod-lt (ones (bare t i v)) two-pos; word = omega arith; even = e }))

@@ -6,6 +6,7 @@ pub mod Fields
 pub mod Numbers
 pub mod Table
 pub mod Match
+pub mod Spare
 pub mod Worked
 pub mod One
 mod Determined

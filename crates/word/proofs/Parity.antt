@@ -7,9 +7,8 @@ use native.Mathlib.Omega.{arith}
 use mathlib.Core.Bool.{Bool, true, false, not}
 use borrow.Author.Tests.{eqb-true, eqb-false, eq-eqb, ne-eqb}
 use lib.Dec.{eqb}
-use lib.Pow.{pow-lt}
 use lib.Arith.{digits-div, digits-mod}
-use lib.Bits.{bitXor, differ, xor-step, xor-zero-r, xor-lt}
+use lib.Bits.{bitXor, differ, xor-step, xor-zero-r}
 use lib.Count.{ones, ones-step, ones-cat}
 use Rattle.word.specs.Frame.{evenOf, flip, evened}
 
@@ -69,10 +68,6 @@ flip-parity k w = go (eqb (ones w % 2) 0) refl
     go : (e : Bool) → eqb (ones w % 2) 0 ≡ e → eqb (ones (flip k w) % 2) 0 ≡ not e
     go true e = let even = eqb-true (ones w % 2) 0 e in ne-eqb (ones (flip k w) % 2) 0 (λ z. omega (arith, flipped k w))
     go false e = let odd = eqb-false (ones w % 2) 0 e in eq-eqb (ones (flip k w) % 2) 0 (omega (arith, flipped k w))
-
--- a word of 32 bits stays one
-pub flip-fits : (k w : ℕ) → k < 32 → w < 2 ^ 32 → flip k w < 2 ^ 32
-flip-fits k w hk hw = xor-lt 32 w (2 ^ k) hw (pow-lt hk)
 
 -- below 2 ^ 31 the bit that `evened` adds is a bit of its own
 one-bit : (r : ℕ) → r < 2 → ones r ≡ r

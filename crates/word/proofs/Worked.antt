@@ -1,7 +1,7 @@
 -- Worked words: `ones` takes as many steps as the number, so a worked word is counted digit by digit, by a test that computes.
 -- Assumes nothing.
 use mathlib.Core.Path.{_≡_, sym, ap, _∙_, subst}
-use mathlib.Core.Bool.{Bool, _&&_}
+use mathlib.Core.Bool.{Bool, true, _&&_}
 use Prim.Native.Nat.{ℕ, zero, suc, _+_, _*_, _/_, _%_, _^_, _<_}
 use native.Mathlib.Nat.{pow-suc}
 use native.Mathlib.Omega.{arith}
@@ -12,7 +12,6 @@ use lib.Count.{ones, onesIn, ones-step}
 use Rattle.word.specs.declared.Built.the-variants.{Word}
 use Rattle.word.specs.Frame.{bare, builtOf}
 use Rattle.word.proofs.Match.{both}
-use mathlib.Core.Bool.{true}
 
 -- k digits are enough for a number below 2 ^ k
 pub counted : (k n : ℕ) → n < 2 ^ k → onesIn k n ≡ ones n
@@ -38,7 +37,3 @@ built-is t i v w e =
     rw low
     (ap (λ (x : ℕ). Word (n + x % 2 * 2 ^ 31)) (sym (counted 32 n (ltb-true n (2 ^ 32) (second .0))))
     ∙ ap Word (eqb-true (n + onesIn 32 n % 2 * 2 ^ 31) w (second .1)))
-
--- whether a worked word is even
-abbrev pub evens : ℕ → Bool
-evens w = ltb w (2 ^ 32) && eqb (onesIn 32 w % 2) 0

@@ -62,3 +62,25 @@ fn the_table_has_the_counted_ids() {
     assert_eq!(ids.len(), 101);
     assert!(ids.iter().all(|id| *id < 128));
 }
+
+/// What the product's `otids` prints is stored beside it, and its gate holds it to that; these are the same rows.
+#[test]
+fn the_product_lists_the_same_ids() {
+    let mut listed: Vec<_> = values::LISTED.iter().collect();
+    listed.sort_by_key(|entry| entry.0);
+    let mut rows = String::from("id,hex,kind,scale,read,write\n");
+    for &&(id, kind, msg) in &listed {
+        let (name, scale) = match kind {
+            Kind::Real => ("real", "0.00390625"),
+            Kind::S16 => ("s16", "1"),
+            Kind::U16 => ("u16", "1"),
+            Kind::Pair => ("pair", "1"),
+            Kind::SPair => ("spair", "1"),
+            Kind::Raw => ("raw", "1"),
+        };
+        let read = if msg == Msg::W { '-' } else { 'R' };
+        let write = if msg == Msg::R { '-' } else { 'W' };
+        rows += &format!("{id},{id:02X},{name},{scale},{read},{write}\n");
+    }
+    assert_eq!(rows, include_str!("../../../crates/otids/stdout"));
+}

@@ -6,7 +6,7 @@ use Prim.Native.Nat.{ℕ, _+_, _*_, _%_, _^_}
 use native.Mathlib.Omega.{arith}
 use Rattle.samples.specs.declared.Phase.the-variants.{Bits}
 use Rattle.samples.specs.Reading.{goesOn, pastEdge, bitOf}
-use Rattle.samples.proofs.Cases.{stop-rises, stop-falls, next-bit, bit-small}
+use Rattle.samples.proofs.Cases.{stop-rises, stop-falls, next-bit}
 use borrow.Author.Needs.{needs}
 use Rattle.reader.proofs.at_middle.Statement.{statement}
 use Rattle.reader.proofs.at_middle.Tie as tie
@@ -41,7 +41,7 @@ mul-past-edge : tie.Need-mul-past-edge
 mul-past-edge c = search needs
 
 add-past-edge-2 : tie.Need-add-past-edge-2
-add-past-edge-2 c = omega (arith, c .before .before .bit-of .ensures, bit-small (c .before .before .before .before .before .args .active))
+add-past-edge-2 c = omega (arith, c .before .before .bit-of .ensures .1)
 
 past-edge-requires : tie.Need-past-edge-requires
 past-edge-requires c κs = search needs
@@ -50,7 +50,7 @@ returns-3 : tie.Need-returns-3
 returns-3 c =
     let a = c .before .before .before .before .before .before .args in
     c .past-edge .ensures
-    ∙ ap (λ (w : ℕ). goesOn (Bits (pastEdge (a .m .edges + 1) w (a .active)))) (shifted (a .active) (a .m .word) _ (c .before .before .before .bit-of .ensures))
+    ∙ ap (λ (w : ℕ). goesOn (Bits (pastEdge (a .m .edges + 1) w (a .active)))) (shifted (a .active) (a .m .word) _ (c .before .before .before .bit-of .ensures .0))
     ∙ sym (next-bit _ _ (omega arith))
 
 pub at-middle-spec : {M : Type 1} → statement M

@@ -1,12 +1,13 @@
 -- `otlist::listing::signed` meets its contract: a number below the half as it is, any other behind a minus.
 -- Assumes nothing.
 use borrow.Author.Needs.{needs}
-use mathlib.Core.Path.{ap, _∙_}
-use Prim.Native.Nat.{_+_, _-_}
+use mathlib.Core.Path.{sym, ap, _∙_}
+use Prim.Native.Nat.{ℕ, _+_, _-_}
 use Rattle.text.specs.declared.Text.{Text}
 use borrow.Author.Tests.{lt-ltb, le-ltb}
-use Rattle.text.specs.Text.{puts, decimalOf}
-use Rattle.otlist.specs.Listing.{signedOf}
+use Rattle.text.specs.Text.{pushed, puts, decimalOf}
+use Rattle.ids.proofs.Signed.{signed-size}
+use Rattle.otlist.specs.Listing.{signedDecimal}
 use Rattle.otlist.proofs.listing.signed.Statement.{statement}
 use Rattle.otlist.proofs.listing.signed.Tie as tie
 
@@ -29,15 +30,19 @@ decimal-requires-2 : tie.Need-decimal-requires-2
 decimal-requires-2 c κs = search needs
 
 returns : tie.Need-returns
-unfolding signedOf
+unfolding signedDecimal
 returns c = rw (lt-ltb _ _ (c .before .if1 .taken)) (c .decimal .ensures)
 
 returns-2 : tie.Need-returns-2
-unfolding signedOf puts
+unfolding signedDecimal puts
 returns-2 c =
+    let t = c .before .before .before .args .t in
     let n = c .before .before .before .args .n in
     let half = c .before .before .before .args .half in
-    rw (le-ltb _ _ (c .before .before .if1 .left)) (c .decimal2 .ensures ∙ ap (λ (t : Text). puts t (decimalOf (half + half - n))) (c .before .push .ensures))
+    rw (le-ltb _ _ (c .before .before .if1 .left))
+    (c .decimal2 .ensures
+    ∙ ap (λ (u : Text). puts u (decimalOf (half + half - n))) (c .before .push .ensures)
+    ∙ ap (λ (m : ℕ). puts (pushed t 45) (decimalOf m)) (sym (signed-size half n (c .before .before .before .pre .0))))
 
 pub signed-spec : {M : Type 1} → statement M
 signed-spec =

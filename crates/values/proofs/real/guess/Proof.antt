@@ -32,7 +32,7 @@ returns : tie.Need-returns
 unfolding ofBits neg
 returns c raw h e = ⊎-elim
     (λ p. cc (pos-test raw p))
-    (λ p. omega (arith, c .whole .ensures (0x1_0000 - raw) (omega arith) (ap (λ (y : Float). mul binary32 y (fin true 1 (pos 8))) e ∙ neg-times raw p)))
+    (λ p. omega (arith, c .whole .ensures (0x1_0000 - raw) (omega arith) (ap (λ (y : Float). mul binary32 y (fin true 1 (pos 8))) e ∙ neg-times raw p h)))
     (lt-or-ge raw 0x8000)
 
 returns-2 : tie.Need-returns-2

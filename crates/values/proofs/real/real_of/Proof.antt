@@ -33,7 +33,7 @@ returns-2 c =
     let e : 0xffff - raw + 1 ≡ 0x1_0000 - raw = omega arith in
     over-256 true (0xffff - raw + 1) (omega arith)
     ∙ ap (λ (n : ℕ). round binary32 true n 256) e
-    ∙ sym (real-neg raw (omega arith))
+    ∙ sym (real-neg raw (omega arith) (omega arith))
 
 pub real-of-spec : {M : Type 1} → statement M
 real-of-spec = tie.close (tie.spec int-to-float-result sub-result add-result int-to-float-result-2 returns returns-2)

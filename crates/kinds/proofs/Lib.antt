@@ -1,0 +1,3 @@
+-- Laws of the kinds' names, for the programs' lines.
+pub mod Short
+mod Determined

@@ -1,0 +1,2 @@
+-- Laws of the list of ids.
+mod Says

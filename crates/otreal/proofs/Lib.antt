@@ -1,0 +1,2 @@
+-- What otreal's lines say.
+mod Answers

@@ -1,0 +1,2 @@
+-- What a reader must believe of the lines that otreal prints.
+pub mod Lines
