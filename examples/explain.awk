@@ -21,6 +21,7 @@ BEGIN {
     refusal[13] = "silence: another unit's message"
     refusal[14] = "silence: a function of 80 or more"
     refusal[15] = "too small a room for a reply"
+    refusal[16] = "damaged: a spare bit is set"
 }
 
 function number(hex, n, i) {

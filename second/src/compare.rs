@@ -10,7 +10,7 @@ use crate::programs::{self, stream, Name, NAMES};
 use crate::random;
 use crate::report::{input_text, report};
 use crate::shrink;
-use crate::tally::{Tally, Thing};
+use crate::tally::{Spare, Tally, Thing};
 use crate::vectors;
 
 /// A run on a shortened input; one that takes longer counts as a difference.
@@ -99,12 +99,18 @@ fn own_output(name: Name, input: &[u8], tally: &mut Tally) -> Vec<u8> {
     }
     let output = programs::run(name, input);
     match name {
-        Name::List => tally.listing(&output),
+        Name::List => {
+            tally.listing(&output);
+            tally.spare_words(Spare::Listed, input);
+        }
         Name::Decode => {
             tally.count_many(Thing::SampleRead, input.len());
             tally.answers(&output);
         }
-        Name::Encode => tally.count_many(Thing::SampleWritten, output.len()),
+        Name::Encode => {
+            tally.count_many(Thing::SampleWritten, output.len());
+            tally.spare_words(Spare::Written, input);
+        }
         _ => {
             tally.count_many(Thing::Float, input.len() / 4);
             tally.answers(&output);

@@ -8,6 +8,13 @@ use crate::refusals;
 /// "Lent room below 16 bytes (reply)."
 const REPLY_ROOM: usize = 16;
 
+/// Where a frame comes from.
+#[derive(Clone, Copy, PartialEq, Eq, PartialOrd, Ord, Debug)]
+pub enum Side {
+    Thermostat,
+    Boiler,
+}
+
 #[derive(Clone, PartialEq, Eq, Debug)]
 pub enum Event {
     Sent {
@@ -41,6 +48,7 @@ pub enum Event {
     Refused(u8),
 }
 
+#[derive(Clone)]
 pub struct Gateway {
     pub lines: [Line; 4],
     /// "Only one order waits in the whole box, from acceptance until its outcome."
@@ -79,7 +87,14 @@ impl Gateway {
         events
     }
 
-    /// A thermostat frame needs no room: its order is 9, 5, 6.
+    pub fn frame(&mut self, side: Side, line: u8, frame: u32, room: usize) -> Event {
+        match side {
+            Side::Thermostat => self.thermostat(line, frame),
+            Side::Boiler => self.boiler(line, frame, room),
+        }
+    }
+
+    /// A thermostat frame needs no room: its order is 9, 5, 16, 6.
     pub fn thermostat(&mut self, line: u8, frame: u32) -> Event {
         if !(1..=4).contains(&line) {
             return Event::Refused(refusals::LINE);
@@ -90,7 +105,7 @@ impl Gateway {
         }
     }
 
-    /// "Order: 15, 9, 5, 6, 7, 8."
+    /// "Order: 15, 9, 5, 6, 7, 8", with 16 "after 5 and before 6" (02, Ask 1).
     pub fn boiler(&mut self, line: u8, frame: u32, room: usize) -> Event {
         if room < REPLY_ROOM {
             return Event::Refused(refusals::ROOM);

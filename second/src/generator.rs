@@ -4,6 +4,7 @@ mod frames;
 mod messages;
 mod pulses;
 mod script;
+mod splice;
 mod strange_lines;
 
 use crate::programs::Name;

@@ -127,11 +127,9 @@ impl Line {
     }
 
     /// "A thermostat frame of type 0 to 2 becomes the held frame, in place of an older one,
-    /// with age 0. Nothing is sent before a tick."
+    /// with age 0. Nothing is sent before a tick." Its order is 5, 16, 6; 9 is the box's.
     pub fn thermostat(&mut self, frame: u32) -> Result<(), u8> {
-        if !word::parity_is_even(frame) {
-            return Err(refusals::PARITY);
-        }
+        word::check_at_the_line(frame)?;
         if word::type_of(frame) > word::INVALID_DATA {
             return Err(refusals::TYPE);
         }
@@ -149,10 +147,11 @@ impl Line {
         });
     }
 
-    /// "Order: 15, 9, 5, 6, 7, 8"; the first two are the box's.
+    /// "Order: 15, 9, 5, 6, 7, 8", with 16 "after 5 and before 6" (02, Ask 1); the first two are
+    /// the box's.
     pub fn boiler(&mut self, frame: u32) -> Answered {
-        if !word::parity_is_even(frame) {
-            return Answered::Refused(refusals::PARITY);
+        if let Err(number) = word::check_at_the_line(frame) {
+            return Answered::Refused(number);
         }
         if word::type_of(frame) < word::READ_ACK {
             return Answered::Refused(refusals::TYPE);

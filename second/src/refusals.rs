@@ -1,4 +1,5 @@
-//! The numbered answers (01, 'Numbered answers'), so that no bare number stands in the rooms.
+//! The numbered answers (01, 'Numbered answers', and 02's new ones), so that no bare number stands
+//! in the rooms.
 
 pub const EARLY_EDGE: u8 = 1;
 pub const MISSING_EDGE: u8 = 2;
@@ -15,3 +16,5 @@ pub const MODBUS_CHECKSUM: u8 = 12;
 pub const MODBUS_UNIT: u8 = 13;
 pub const MODBUS_FUNCTION: u8 = 14;
 pub const ROOM: u8 = 15;
+// 02, Ask 1
+pub const SPARE_BITS: u8 = 16;

@@ -1,11 +1,16 @@
 //! How often each thing occurred, so that a comparison that never tried something says so.
 
+mod entry;
+mod spare;
 mod table;
 
-use std::collections::BTreeMap;
+use std::collections::{BTreeMap, BTreeSet};
 
+use crate::digits;
 use crate::gateway::Event;
 use crate::word;
+
+pub use spare::Spare;
 
 /// The kinds as the listing prints them.
 const KINDS: [&str; 6] = ["real", "s16", "u16", "pair", "spair", "raw"];
@@ -38,6 +43,7 @@ pub enum Thing {
     ExceptionAsOutcome(u8),
     OwnRead,
     OwnException(u8),
+    Spare(Spare),
 }
 
 #[derive(Default)]
@@ -45,6 +51,8 @@ pub struct Tally {
     counts: BTreeMap<Thing, u64>,
     /// The shortest and the longest wait.
     waits: Option<(u32, u32)>,
+    /// The lines whose talk would have been answered, had there been no spare bits.
+    spoilt: BTreeSet<u8>,
 }
 
 impl Tally {
@@ -75,6 +83,7 @@ impl Tally {
     }
 
     pub fn event(&mut self, event: &Event) {
+        self.end_of_talk(event);
         match event {
             Event::Sent { .. } => self.count(Thing::Sent),
             Event::Passed { .. } => self.count(Thing::Passed),
@@ -112,13 +121,18 @@ impl Tally {
     pub fn answers(&mut self, output: &[u8]) {
         for line in String::from_utf8_lossy(output).lines() {
             let fields: Vec<&str> = line.split(' ').collect();
-            self.count(match fields[..] {
+            match fields[..] {
                 [.., "refused", number] => {
-                    Thing::Refusal(number.parse().expect("own output has a number here"))
+                    let number = number.parse().expect("own output has a number here");
+                    self.count(Thing::Refusal(number));
                 }
-                [_, "frame", _] => Thing::FrameRead,
-                _ => Thing::RawNumber,
-            });
+                [_, "frame", word] => {
+                    let word = digits::bytes(word.as_bytes()).expect("own output has a word here");
+                    self.count(Thing::FrameRead);
+                    self.spare_words(Spare::Read, &word);
+                }
+                _ => self.count(Thing::RawNumber),
+            }
         }
     }
 

@@ -19,6 +19,7 @@ pub fn all() -> Vec<Vector> {
     let mut vectors: Vec<Vector> = TYPED.split("\n== ").skip(1).map(typed).collect();
     vectors.extend(every_real());
     vectors.extend(written());
+    vectors.extend(spare_bit_read());
     vectors.extend(frame_after_frame());
     vectors.extend(longest_messages());
     vectors
@@ -92,6 +93,7 @@ fn frame(bits: &str) -> Vec<u8> {
 
 const P1_BITS: &str = "1 1000 0000 0001 1001 0000 0000 0000 0000 1";
 const ODD_BITS: &str = "1 1000 0000 0000 0000 0000 0000 0000 0000 1";
+const SPARE_BITS: &str = "1 1100 0001 0001 1001 0011 0010 1000 0000 1";
 
 fn written() -> Vec<Vector> {
     let one = |title: &str, word: u32, bits| Vector {
@@ -103,7 +105,15 @@ fn written() -> Vec<Vector> {
     vec![
         one("P1 written", 0x8019_0000, P1_BITS),
         one("a word of odd parity written", 0x8000_0000, ODD_BITS),
+        one("Ask 1: a spare bit written", 0xC119_3280, SPARE_BITS),
     ]
+}
+
+/// "Refused at the line" (02, Ask 1), so not before it: the reader gives the frame as ever.
+fn spare_bit_read() -> Vec<Vector> {
+    let input = [vec![0; 24], frame(SPARE_BITS)].concat();
+    let (title, expected) = ("Ask 1: a spare bit read", "694 frame C1193280\n");
+    vec![vector(Name::Decode, title, input, expected)]
 }
 
 /// Nine idle samples of the first frame count, so 15 more are enough and 14 too few.

@@ -22,6 +22,10 @@ pub fn type_of(word: u32) -> u8 {
     (word >> 28 & 0x7) as u8
 }
 
+pub fn spare_of(word: u32) -> u8 {
+    (word >> 24 & 0xF) as u8
+}
+
 pub fn id_of(word: u32) -> u8 {
     (word >> 16 & 0xFF) as u8
 }
@@ -49,10 +53,29 @@ pub fn with_even_parity(word: u32) -> u32 {
     }
 }
 
+/// The frame as it would be with its spare bits 0; type, id and value stay.
+pub fn without_spare(word: u32) -> u32 {
+    with_even_parity(word & 0xF0FF_FFFF)
+}
+
+/// What a frame has to pass at the line, from either side: even parity, then spare bits that are
+/// zero. "Frames with a spare bit set are to be refused at the line, from either side"; "16, spare
+/// bits not zero, no effect, after 5 and before 6" (02, Ask 1). Nothing but the line asks for it.
+pub fn check_at_the_line(word: u32) -> Result<(), u8> {
+    if !parity_is_even(word) {
+        return Err(refusals::PARITY);
+    }
+    if spare_of(word) != 0 {
+        return Err(refusals::SPARE_BITS);
+    }
+    Ok(())
+}
+
 /// "A boiler frame of even parity matches a question when the id is equal and the type
-/// is 6 or 7, or 4 for a READ-DATA, or 5 for a WRITE-DATA."
+/// is 6 or 7, or 4 for a READ-DATA, or 5 for a WRITE-DATA." "A matching frame in demand 3 is from
+/// then on one that passes this too" (02, Ask 1).
 pub fn matches(question: u32, answer: u32) -> bool {
-    if !parity_is_even(answer) || id_of(answer) != id_of(question) {
+    if check_at_the_line(answer).is_err() || id_of(answer) != id_of(question) {
         return false;
     }
     match type_of(answer) {

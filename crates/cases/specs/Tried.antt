@@ -9,7 +9,8 @@ use lib.Ieee.{binary32, toBits}
 use lib.Ieee.Exact.{HasValue}
 use Rattle.word.specs.declared.Built.the-variants.{Word}
 use Rattle.word.specs.declared.Frame.{Frame}
-use Rattle.word.specs.Frame.{evenOf, typeOf, matchesOf, builtOf, read-data, write-data, unknown-dataid, data-invalid}
+use Rattle.word.specs.Fields.{GoodWord}
+use Rattle.word.specs.Frame.{typeOf, matchesOf, builtOf, read-data, write-data, unknown-dataid, data-invalid}
 use Rattle.values.specs.Real.{realOf}
 use Rattle.crc.specs.Crc.{sealed}
 use Rattle.turns.specs.declared.Query.{Query}
@@ -47,5 +48,5 @@ pub record Tried : Type 0 where
   -- P11 a middle edge at 17 is refusal 1, at 18 and 23 good
   pub p11 : Gives p11-cases
   -- P12 an order taken at rest 0 after a Modbus talk, thermostat frame held, silent boiler: outcome at tick 1,950
-  pub p12 : (v w : Query) (f : Frame) → evenOf (f .word) ≡ true → typeOf (f .word) ≤ 2 →
+  pub p12 : (v w : Query) (f : Frame) → GoodWord (f .word) → typeOf (f .word) ≤ 2 →
       noteOf (tickOf (ticksLater 1949 (crowded v w f)) .said) ≡ no-answer 1950

@@ -7,6 +7,8 @@ use Prim.Native.Nat.{ℕ, _%_, _^_, _<_}
 use lib.Dec.{eqb, lit<}
 use lib.Count.{onesIn}
 use Rattle.word.specs.Frame.{evenOf, typeOf, idOf, valueOf}
+use Rattle.word.specs.Fields.{Fields, Fit, wordOf, respared}
+use Rattle.word.proofs.Spare.{spare-unread}
 use Rattle.word.proofs.Worked.{counted}
 use Rattle.places.specs.Bytes.{pairAt, wordAt}
 use Rattle.text.specs.Text.{decimalOf, digitsIn, hexOf}
@@ -80,6 +82,12 @@ example =
 pub odd : (w : ℕ) → evenOf w ≡ false → listedOf w ≡ parity
 unfolding listedOf
 odd w e = rw e
+
+-- "the listing stays" (02, Ask 1): a word that a line refuses for its spare bits is listed as one without them
+pub spare-listed : (f : Fields) (s : ℕ) → Fit f → s < 16 → evenOf (wordOf (respared s f)) ≡ evenOf (wordOf f) →
+    listedOf (wordOf (respared s f)) ≡ listedOf (wordOf f)
+unfolding listedOf listedFields
+spare-listed f s fit small same = let a = spare-unread f s fit small in rw (same, a .type, a .id, a .value)
 
 -- the other kinds, numbers below 0, and large ones
 pub record EachKind : Type 0 where

@@ -1,4 +1,4 @@
--- Each line of the box keeps what is promised of a line's turns, of what a boiler frame meets, and to the thermostat: what can be seen of its talk
+-- Each line of the box keeps what is promised of a line's turns, of what a boiler frame meets and which frames get past, and to the thermostat: what can be seen of its talk
 -- in the box is what can be seen of a line alone, on that line's own history.
 -- Assumes nothing.
 use Prim.Native.Nat.{ℕ}
@@ -12,10 +12,11 @@ use Rattle.turns.specs.History.{doOf}
 use Rattle.turns.specs.Scene.{Scene}
 use Rattle.turns.specs.Sight.{Came, Took, lineScene}
 use Rattle.turns.specs.Relay.{Relay}
-use Rattle.turns.specs.Talks.{Turns, Meets}
-use Rattle.turns.proofs.Agree.{Into, Agrees, turns-too, meets-too, relay-too}
+use Rattle.turns.specs.Talks.{Turns, Meets, GoodOnly}
+use Rattle.turns.proofs.Agree.{Into, Agrees, turns-too, meets-too, good-too, relay-too}
 use Rattle.turns.proofs.Turning.{turns}
 use Rattle.turns.proofs.Meets.{boiler-meets}
+use Rattle.turns.proofs.Good.{good-only}
 use Rattle.turns.proofs.Relay.{relays}
 use Rattle.modbus.specs.Wrapping.{Wrapping, Lawful}
 use Rattle.promises.specs.Notes.{BoxNote, held, passed}
@@ -131,6 +132,9 @@ module _ {W : Wrapping} (law : Lawful W) (h : Inputs) {k : ℕ} (four : Four k) 
 
   pub box-meets : Meets (boxScene W k h (given W h))
   box-meets = meets-too agrees (boiler-meets (E law h k))
+
+  pub box-good-only : GoodOnly (boxScene W k h (given W h))
+  box-good-only = good-too agrees (good-only (E law h k))
 
   pub box-relays : Relay (boxScene W k h (given W h))
   box-relays = relay-too agrees (relays (E law h k))

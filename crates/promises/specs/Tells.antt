@@ -17,11 +17,12 @@ abbrev pub Among : List ℕ → ℕ → Type 0
 Among [] n = ⊥
 Among (m ∷ ms) n = (n ≡ m) ⊎ Among ms n
 
--- "Order: 15, 9, 5, 6, 7, 8; for Modbus messages 15 comes before 11": the numbers that each input can be refused with
+-- "Order: 15, 9, 5, 6, 7, 8; for Modbus messages 15 comes before 11", and 16 "after 5 and before 6" (02, Ask 1): the numbers that each input can be
+-- refused with
 abbrev pub refusals : Input → List ℕ
 refusals (tick room) = 15 ∷ []
-refusals (thermostat l f) = 9 ∷ 5 ∷ 6 ∷ []
-refusals (boiler l f room) = 15 ∷ 9 ∷ 5 ∷ 6 ∷ 7 ∷ 8 ∷ []
+refusals (thermostat l f) = 9 ∷ 5 ∷ 16 ∷ 6 ∷ []
+refusals (boiler l f room) = 15 ∷ 9 ∷ 5 ∷ 16 ∷ 6 ∷ 7 ∷ 8 ∷ []
 refusals (message bytes room) = 15 ∷ 11 ∷ 12 ∷ 13 ∷ 14 ∷ []
 
 -- what can be told to an input, and nothing else

@@ -10,7 +10,7 @@ use Rattle.turns.specs.declared.Talker.{Talker}
 use Rattle.turns.specs.declared.Talker.the-variants.{Thermostat, Modbus}
 use Rattle.turns.specs.Scene.{Scene, AnswersOn, Unanswered, Over, Latest, Talks, RestsSince, fresh, ended, Comes, Waits, Last, nobody, somebody}
 use Rattle.turns.specs.Relay.{Relayed, Answered, Wanted, Relay}
-use Rattle.turns.specs.Talks.{Rested, Turns, Sound, Listens, Meets}
+use Rattle.turns.specs.Talks.{Rested, Turns, Sound, Listens, Meets, GoodOnly}
 
 -- what can be seen of A can be seen of B
 pub record Into (A B : Scene) : Type 0 where
@@ -134,12 +134,21 @@ module _ {A B : Scene} (c : Agrees A B) where
   }
 
   sound : (n : ℕ) (b : Frame) → Sound B n b → Sound A n b
-  sound n b x = record { frame = o .boils n b (x .frame); even = x .even; typed = x .typed }
+  sound n b x = record { frame = o .boils n b (x .frame); good = x .good; typed = x .typed }
 
   pub meets-too : Meets A → Meets B
   meets-too t = record {
     seven = λ n b x none. c .refuses n 7 (t .seven n b (sound n b x) (λ q l. none q (listens i o n q l)));
     eight = λ n b q x l off. c .refuses n 8 (t .eight n b q (sound n b x) (listens o i n q l) off);
+    sixteen = λ n b is even set. c .refuses n 16 (t .sixteen n b (o .boils n b is) even set);
+  }
+
+  pub good-too : GoodOnly A → GoodOnly B
+  good-too t = record {
+    held = λ n f on. t .held n f (o .holds n f on);
+    out = λ n f on. t .out n f (o .goes Thermostat n f on);
+    answer = λ j q k b a. t .answer j q k b (answers o j q k b a);
+    passed = λ k b on. t .passed k b (o .passes k b on);
   }
 
   pub relay-too : Relay A → Relay B

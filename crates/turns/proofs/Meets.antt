@@ -1,5 +1,5 @@
--- What a boiler frame meets, from a line's fresh start: 7 where no talk listens, 8 where it doesn't match; and one that ends a talk of the
--- thermostat's is passed on or dropped.
+-- What a boiler frame meets, from a line's fresh start: 16 where a spare bit is set, 7 where no talk listens, 8 where it doesn't match; and one
+-- that ends a talk of the thermostat's is passed on or dropped.
 -- Assumes nothing.
 use Prim.Native.Nat.{ℕ, suc, _≤_}
 use mathlib.Core.Path.{_≡_, refl, sym, ap, _∙_}
@@ -10,6 +10,7 @@ use Rattle.word.proofs.Clash.{clash}
 use Rattle.word.specs.declared.Frame.{Frame}
 use Rattle.word.specs.Frame.{matchesOf}
 use Rattle.word.specs.Checks.{Fails}
+use Rattle.word.proofs.Good.{spare-fails}
 use Rattle.turns.specs.Line.{Line, Step}
 use Rattle.turns.specs.declared.Talker.{Talker}
 use Rattle.turns.specs.declared.Talker.the-variants.{Thermostat, Modbus}
@@ -26,7 +27,7 @@ use Rattle.turns.proofs.Clock.{clock-suc, clock-mono, side}
 use Rattle.turns.proofs.Happens.{Unanswered, Happens, passing, resting, nobody, relay-sent, order-sent, talking, relay-silent, happens}
 use Rattle.turns.proofs.Happens.{order-silent, relay-held, relay-refused, order-answered, relay-answered, relay-lost, boiler-refused}
 use Rattle.turns.proofs.Happens.{order-taken, order-busy}
-use Rattle.turns.proofs.Refusals.{of-boiler, at-rest, too-early, too-late, no-match}
+use Rattle.turns.proofs.Refusals.{of-boiler, word-boiler, at-rest, too-early, too-late, no-match}
 use Rattle.turns.proofs.Turned.{same-or, Past, TalkAt, TurnAt}
 use Rattle.turns.proofs.Standing.{H, Known, known, latest-once}
 
@@ -46,15 +47,16 @@ module _ (h : Events) where
       (λ z. let up = clock-mono h (suc (past .0)) (suc k) (omega (arith, past .1)) in omega (arith, an .answers .upto, z .1))
       (past .2 .by)
 
-  -- ---- 7 and 8
+  -- ---- 16, 7 and 8
+
+  refused-with : (n : ℕ) (b : Frame) (r : ℕ) → h n ≡ boiler b → Fails (boilerChecks (lineAt h n) b) r → notes h n ≡ refused r
+  unfolding saidAt refusal
+  refused-with n b r is fails =
+      ap (λ (e : Event). noteOf (doOf (lineAt h n) e .said)) is ∙ ap (λ (S : Step). noteOf (S .said)) (of-boiler (lineAt h n) b fails)
 
   module _ (n : ℕ) (b : Frame) (sound : Sound (H h) n b) where
     abbrev L : Line
     L = lineAt h n
-
-    refused-with : (r : ℕ) → Fails (boilerChecks L b) r → notes h n ≡ refused r
-    unfolding saidAt refusal
-    refused-with r fails = ap (λ (e : Event). noteOf (doOf L e .said)) (sound .frame) ∙ ap (λ (S : Step). noteOf (S .said)) (of-boiler L b fails)
 
     listening : (x : Talker) (q : Frame) (a u : ℕ) → TalkAt h (notes h) n x q a → 84 ≤ a → a ≤ 874 → Listens (H h) n q
     listening x q a u o lo hi = record {
@@ -66,13 +68,13 @@ module _ (h : Events) where
     }
 
     deaf : (t : Turn) → L .turn ≡ t → TurnAt h (notes h) n t (L .last) → ((q : Frame) → Listens (H h) n q → ⊥) → Fails (boilerChecks L b) 7
-    deaf (Rest r) is o none = at-rest b L (sound .even) (sound .typed) r is
+    deaf (Rest r) is o none = at-rest b L (sound .good) (sound .typed) r is
     deaf (Talk x q a u) is o none =
         ⊎-elim
-        (λ early. too-early b L (sound .even) (sound .typed) x q a u is early)
+        (λ early. too-early b L (sound .good) (sound .typed) x q a u is early)
         (λ lo.
         ⊎-elim
-        (λ late. too-late b L (sound .even) (sound .typed) x q a u is late)
+        (λ late. too-late b L (sound .good) (sound .typed) x q a u is late)
         (λ hi. absurd (none q (listening x q a u o lo hi)))
         (side 874 a))
         (side a 84)
@@ -87,13 +89,14 @@ module _ (h : Events) where
         let there : notes h (o .j) ≡ sent y p = rw same (talks .latest .out) in
         let word : p ≡ q = cc in
         let out = ap (λ (z : ℕ). clock h (suc z)) same in
-        no-match b L (sound .even) (sound .typed) y p a u is (omega (arith, o .from, talks .out .age)) (omega (arith, o .upto, talks .out .age))
+        no-match b L (sound .good) (sound .typed) y p a u is (omega (arith, o .from, talks .out .age)) (omega (arith, o .upto, talks .out .age))
         (rw word off)
 
   pub boiler-meets : Meets (H h)
   boiler-meets = record {
-    seven = λ n b sound none. refused-with n b sound 7 (deaf n b sound (lineAt h n .turn) refl (known h n .turn) none);
-    eight = λ n b q sound o off. refused-with n b sound 8 (unlike n b sound (lineAt h n .turn) refl (known h n .turn) q o off);
+    seven = λ n b sound none. refused-with n b 7 (sound .frame) (deaf n b sound (lineAt h n .turn) refl (known h n .turn) none);
+    eight = λ n b q sound o off. refused-with n b 8 (sound .frame) (unlike n b sound (lineAt h n .turn) refl (known h n .turn) q o off);
+    sixteen = λ n b is even set. refused-with n b 16 is (word-boiler b (lineAt h n) (spare-fails (b .word) even set));
   }
 
   -- ---- an answer to the thermostat

@@ -34,6 +34,24 @@ pub rest : (cs : List Check) {ds : List Check} → Passes (cs ++ ds) → Passes 
 rest [] p = p
 rest (c ∷ cs) (all e p) = rest cs p
 
+pub front : (cs ds : List Check) → Passes (cs ++ ds) → Passes cs
+front [] ds p = none
+front (c ∷ cs) ds (all e p) = all e (front cs ds p)
+
+-- where one of the first fails, what follows them isn't looked at; where all of them pass, it is
+pub sooner : {cs : List Check} (ds : List Check) {n : ℕ} → Fails cs n → Fails (cs ++ ds) n
+sooner ds (here e) = here e
+sooner ds (later e f) = later e (sooner ds f)
+
+pub beyond : {cs ds : List Check} {n : ℕ} → Passes cs → Fails ds n → Fails (cs ++ ds) n
+beyond none f = f
+beyond (all e p) f = later e (beyond p f)
+
+pub onward : {A : Type 0} (refusal : ℕ → A) (next : A) {cs : List Check} (ds : List Check) → Passes cs →
+    judged (cs ++ ds) refusal next ≡ judged ds refusal next
+onward refusal next ds none = refl
+onward refusal next ds (all e p) = rw e (onward refusal next ds p)
+
 -- no list does both
 pub excluded : {cs : List Check} {n : ℕ} → Fails cs n → Passes cs → ⊥
 excluded (here f) (all e p) = clash cc

@@ -12,6 +12,8 @@ use Rattle.word.proofs.id_of.Reads as id-of-reads
 use Rattle.word.proofs.id_of.Kinds as id-of-kinds
 use Rattle.word.proofs.value_of.Reads as value-of-reads
 use Rattle.word.proofs.value_of.Kinds as value-of-kinds
+use Rattle.word.proofs.check.Reads as check-reads
+use Rattle.word.proofs.check.Kinds as check-kinds
 use Rattle.word.proofs.build.Reads as build-reads
 use Rattle.word.proofs.build.Kinds as build-kinds
 use Rattle.word.proofs.matches.Reads as matches-reads
@@ -31,6 +33,9 @@ id-of-one κs a u v x y p q = p ∙ sym q
 
 pub value-of-one : One value-of-kinds.ps value-of-kinds.r value-of-reads.Post
 value-of-one κs a u v x y p q = p ∙ sym q
+
+pub check-one : One check-kinds.ps check-kinds.r check-reads.Post
+check-one κs a u v x y p q = p ∙ sym q
 
 pub build-one : One build-kinds.ps build-kinds.r build-reads.Post
 build-one κs a u v x y p q = p ∙ sym q

@@ -1,6 +1,7 @@
 -- Laws of the frame word, for the proofs here and in the crates above.
 pub mod Clash
 pub mod Checks
+pub mod Good
 pub mod Parity
 pub mod Fields
 pub mod Numbers

@@ -1,5 +1,5 @@
--- A matching frame in 01's numbers: even, of the question's id, and of one of the types in the question's row of the table. `matching` says
--- it of every two words; the laws that the crates above use follow.
+-- A matching frame in 01's numbers: a good word, of the question's id, and of one of the types in the question's row of the table. `matching`
+-- says it of every two words; the laws that the crates above use follow.
 -- Assumes nothing.
 use mathlib.Core.Path.{_≡_, refl, sym, _∙_}
 use mathlib.Core.Bool.{Bool, true, false, not, _&&_, _||_, Bool·beq}
@@ -14,7 +14,9 @@ use borrow.Author.Tests.{eqb-true, eq-eqb, leb-true}
 use Rattle.word.proofs.Clash.{clash}
 use Rattle.word.proofs.Table.{below, under}
 use Rattle.word.proofs.Fields.{fields}
-use Rattle.word.specs.Frame.{evenOf, idOf, typeOf, suitsOf, matchesOf}
+use Rattle.word.proofs.Good.{good, of-good, good-passes, passes-good}
+use Rattle.word.specs.Checks.{Passes}
+use Rattle.word.specs.Frame.{evenOf, goodChecks, goodOf, idOf, typeOf, suitsOf, matchesOf}
 use Rattle.word.specs.Fields.{Fields, Fit, wordOf, Read, answers, Among, Matches}
 
 -- both parts of a conjunction that holds
@@ -24,7 +26,7 @@ both false b e = clash cc
 
 -- the three parts of a match
 record Parts (q b : ℕ) : Type 0 where
-  even : evenOf b ≡ true
+  good : goodOf b ≡ true
   id : idOf q ≡ idOf b
   suits : suitsOf (typeOf q) (typeOf b) ≡ true
 
@@ -33,13 +35,13 @@ unfolding matchesOf
 parts q b m =
     let same = eqb (idOf q) (idOf b) in
     let fits = suitsOf (typeOf q) (typeOf b) in
-    let p = both (evenOf b) (same && fits) m in
+    let p = both (goodOf b) (same && fits) m in
     let s = both same fits (p .1) in
-    record { even = p .0; id = eqb-true (idOf q) (idOf b) (s .0); suits = s .1 }
+    record { good = p .0; id = eqb-true (idOf q) (idOf b) (s .0); suits = s .1 }
 
 joined : (q b : ℕ) → Parts q b → matchesOf q b ≡ true
 unfolding matchesOf
-joined q b p = rw (p .even, eq-eqb (idOf q) (idOf b) (p .id)) (p .suits)
+joined q b p = rw (p .good, eq-eqb (idOf q) (idOf b) (p .id)) (p .suits)
 
 -- the table, by one test of its 8 rows and the 8 types
 abbrev row : ℕ → List ℕ
@@ -98,8 +100,8 @@ module _ (q b : ℕ) where
   by-table : suitsOf (typeOf q) (typeOf b) ≡ among (typeOf b) (row (typeOf q))
   by-table = same (suitsOf (typeOf q) (typeOf b)) (among (typeOf b) (row (typeOf q))) (leb 4 (typeOf b)) at-types
 
-  pub match-even : matchesOf q b ≡ true → evenOf b ≡ true
-  match-even m = parts q b m .even
+  pub match-good : matchesOf q b ≡ true → Passes (goodChecks b)
+  match-good m = of-good b (parts q b m .good)
 
   pub match-type : matchesOf q b ≡ true → 4 ≤ typeOf b
   match-type m =
@@ -107,7 +109,7 @@ module _ (q b : ℕ) where
       (low (suitsOf (typeOf q) (typeOf b)) (among (typeOf b) (row (typeOf q))) (leb 4 (typeOf b)) at-types (parts q b m .suits))
 
 -- "A boiler frame of even parity matches a question when the id is equal and the type is 6 or 7, or 4 for a READ-DATA, or 5 for a
--- WRITE-DATA", and only then: of every two words (`of-fields`)
+-- WRITE-DATA", its spare bits zero, and only then: of every two words (`of-fields`)
 module _ (q b : Fields) (hq : Fit q) (hb : Fit b) where
   abbrev u : Read q
   u = fields q hq
@@ -122,8 +124,10 @@ module _ (q b : Fields) (hq : Fit q) (hb : Fit b) where
   unfolding evenOf
   matching m =
       let p = parts (wordOf q) (wordOf b) m in
+      let g = passes-good (wordOf b) (match-good (wordOf q) (wordOf b) m) in
       record {
-        even = eqb-true (ones (wordOf b) % 2) 0 (p .even);
+        even = eqb-true (ones (wordOf b) % 2) 0 (g .even);
+        clear = sym (v .spare) ∙ g .clear;
         same-id = sym (u .id) ∙ p .id ∙ v .id;
         answers-type = among-is (b .type) (row (q .type)) (sym row-is ∙ sym (by-table (wordOf q) (wordOf b)) ∙ p .suits);
       }
@@ -133,7 +137,7 @@ module _ (q b : Fields) (hq : Fit q) (hb : Fit b) where
   matched m =
       joined (wordOf q) (wordOf b)
       (record {
-        even = eq-eqb (ones (wordOf b) % 2) 0 (m .even);
+        good = good (wordOf b) (good-passes (wordOf b) (record { even = eq-eqb (ones (wordOf b) % 2) 0 (m .even); clear = v .spare ∙ m .clear }));
         id = u .id ∙ m .same-id ∙ sym (v .id);
         suits = by-table (wordOf q) (wordOf b) ∙ row-is ∙ is-among (b .type) (row (q .type)) (m .answers-type);
       })

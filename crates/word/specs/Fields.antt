@@ -1,13 +1,14 @@
 -- A word by its fields, and a boiler's word that matches a question, in 01's numbers: the words of the promises on frames (proofs/Fields,
 -- proofs/Match, proofs/Spare), to be laid beside the definitions of Frame.
 -- Assumes nothing: these are definitions.
-use Prim.Native.Nat.{ℕ, _+_, _*_, _%_, _<_}
+use Prim.Native.Nat.{ℕ, _+_, _*_, _%_, _≤_, _<_}
 use mathlib.Core.Path.{_≡_}
 use mathlib.Core.Logic.{_⊎_}
+use mathlib.Core.Bool.{true}
 use mathlib.Core.List.{List, [], _∷_}
 use lib.Count.{ones}
 use lib.ListN.{getD}
-use Rattle.word.specs.Frame.{typeOf, spareOf, idOf, valueOf}
+use Rattle.word.specs.Frame.{evenOf, typeOf, spareOf, idOf, valueOf}
 
 pub record Fields : Type 0 where
   pub parity : ℕ
@@ -51,6 +52,18 @@ pub record Alike (v w : ℕ) : Type 0 where
   pub id : idOf v ≡ idOf w
   pub value : valueOf v ≡ valueOf w
 
+-- a good word for a line: "The number of ones is even", and "the spare bits, which should be zero" (02, Ask 1), are
+pub record GoodWord (w : ℕ) : Type 0 where
+  pub even : evenOf w ≡ true
+  pub clear : spareOf w ≡ 0
+
+-- "flips bits in pairs" (02, Ask 1): two of the 32 bits, of which k is a spare one, "27 to 24 spare"
+pub record SparePair (k j : ℕ) : Type 0 where
+  pub from : 24 ≤ k
+  pub upto : k ≤ 27
+  pub bit : j < 32
+  pub other : j ≡ k → ⊥
+
 -- "the type is 6 or 7, or 4 for a READ-DATA, or 5 for a WRITE-DATA": the boiler's types for a question of type 0 READ-DATA, 1 WRITE-DATA,
 -- 2 INVALID-DATA; and for 3 to 7, which no question has
 abbrev pub answers : List (List ℕ)
@@ -65,9 +78,10 @@ abbrev pub Among : ℕ → List ℕ → Type 0
 Among x [] = ⊥
 Among x (y ∷ l) = (x ≡ y) ⊎ Among x l
 
--- "A boiler frame of even parity matches a question when the id is equal and the type is" one of those in the question's row. Neither the
--- values nor the spare bits are looked at, nor is the question's parity.
+-- "A boiler frame of even parity matches a question when the id is equal and the type is" one of those in the question's row, and its spare
+-- bits are zero (02, Ask 1). The values aren't looked at, nor are the question's parity and spare bits.
 pub record Matches (q b : Fields) : Type 0 where
   pub even : ones (wordOf b) % 2 ≡ 0
+  pub clear : b .spare ≡ 0
   pub same-id : q .id ≡ b .id
   pub answers-type : Among (b .type) (getD answers (q .type) [])

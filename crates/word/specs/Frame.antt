@@ -1,12 +1,17 @@
--- The frame word (01, 'Frame word'): its fields, its parity, a word from its fields, and a boiler's word that matches a question.
+-- The frame word (01, 'Frame word'): its fields, its parity, what a line takes for a good one, a word from its fields, and a boiler's word that
+-- matches a question.
 -- Assumes nothing: these are definitions.
 use Prim.Native.Nat.{ℕ, _+_, _*_, _/_, _%_, _^_}
-use mathlib.Core.Bool.{Bool, cond, _&&_, _||_}
+use mathlib.Core.Bool.{Bool, true, false, cond, _&&_, _||_}
+use mathlib.Core.List.{List, [], _∷_}
 use lib.Bits.{bitXor}
 use lib.Dec.{eqb, ltb}
 use lib.Count.{ones}
 use Rattle.word.specs.declared.Built.{Built}
 use Rattle.word.specs.declared.Built.the-variants.{Word, Refused}
+use Rattle.word.specs.declared.Checked.{Checked}
+use Rattle.word.specs.declared.Checked.the-variants as checked
+use Rattle.word.specs.Checks.{Check, must, judged}
 
 -- n bits of a word, from bit k on
 abbrev pub field : ℕ → ℕ → ℕ → ℕ
@@ -28,6 +33,20 @@ valueOf w = field 0 16 w
 -- "The number of ones is even." (Over all 32 bits.)
 unfoldable pub evenOf : ℕ → Bool
 evenOf w = eqb (ones w % 2) 0
+
+-- "the spare bits, which should be zero" (02, Ask 1)
+unfoldable pub clearOf : ℕ → Bool
+clearOf w = eqb (spareOf w) 0
+
+-- A good word for a line, from either side. 5: "parity odd"; then 16: "spare bits not zero" (02, Ask 1, which decides over 000 here).
+abbrev pub goodChecks : ℕ → List Check
+goodChecks w = must 5 (evenOf w) ∷ must 16 (clearOf w) ∷ []
+
+unfoldable pub goodOf : ℕ → Bool
+goodOf w = judged (goodChecks w) (λ n. false) true
+
+unfoldable pub checkedOf : ℕ → Checked
+checkedOf w = judged (goodChecks w) checked.Refused checked.Good
 
 -- the word with bit k flipped
 abbrev pub flip : ℕ → ℕ → ℕ
@@ -72,7 +91,8 @@ unfoldable pub suitsOf : ℕ → ℕ → Bool
 suitsOf q a =
     (eqb a data-invalid || eqb a unknown-dataid) || ((eqb a read-ack && eqb q read-data) || (eqb a write-ack && eqb q write-data))
 
--- "A boiler frame of even parity matches a question when the id is equal and the type is" as above.
--- The one definition of a matching frame, parity included: line and promises cite it.
+-- "A boiler frame of even parity matches a question when the id is equal and the type is" as above; and "a matching frame .. is from then on one
+-- that passes this too" (02, Ask 1): it is a good word.
+-- The one definition of a matching frame, parity and spare bits included: line and promises cite it.
 unfoldable pub matchesOf : ℕ → ℕ → Bool
-matchesOf q b = evenOf b && (eqb (idOf q) (idOf b) && suitsOf (typeOf q) (typeOf b))
+matchesOf q b = goodOf b && (eqb (idOf q) (idOf b) && suitsOf (typeOf q) (typeOf b))

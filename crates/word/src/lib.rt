@@ -1,6 +1,6 @@
-// The frame word: its fields, its parity, a word from its fields, and when a boiler's word answers a question.
+// The frame word: its fields, its parity, what a line takes for a good one, a word from its fields, and when a boiler's word answers a question.
 ghost use mathlib.Core.Path.{_≡_};
-ghost use Rattle.word.specs.Frame.{evenOf, typeOf, spareOf, idOf, valueOf, builtOf, suitsOf, matchesOf};
+ghost use Rattle.word.specs.Frame.{evenOf, typeOf, spareOf, idOf, valueOf, checkedOf, builtOf, suitsOf, matchesOf};
 
 // A frame on its way through the box. It holds the word alone; what else a frame carries will stand here.
 pub struct Frame {
@@ -10,6 +10,12 @@ pub struct Frame {
 // A word made from its fields, or the number of the refusal.
 pub enum Built {
     Word(u32),
+    Refused(u8),
+}
+
+// A word that a line looks at: good, or the number of the refusal.
+pub enum Checked {
+    Good,
     Refused(u8),
 }
 
@@ -41,6 +47,19 @@ pub fn value_of(w: u32) -> u16
     ensures { λ r. ⌜ r ≡ valueOf w ⌝ }
 {
     (w % 0x1_0000) as u16
+}
+
+// What a line asks of a word from either side, before it looks at the type.
+pub fn check(w: u32) -> Checked
+    ensures { λ r. ⌜ r ≡ checkedOf w ⌝ }
+{
+    if !even(w) {
+        return Checked::Refused(5);
+    }
+    if spare_of(w) != 0 {
+        return Checked::Refused(16);
+    }
+    Checked::Good
 }
 
 pub fn build(t: u8, id: u8, value: u16) -> Built
@@ -75,7 +94,8 @@ fn suits(question: u8, answer: u8) -> bool
 pub fn matches(question: u32, answer: u32) -> bool
     ensures { λ r. ⌜ r ≡ matchesOf question answer ⌝ }
 {
-    if !even(answer) {
+    let checked = check(answer);
+    if let Checked::Refused(_) = checked {
         return false;
     }
     let asked = id_of(question);

@@ -158,13 +158,4 @@ impl Script {
         self.random
             .pick(&[0, 1, 25, asked, asked, other, other, other])
     }
-
-    /// Some frames carry spare bits, which nothing may look at.
-    fn spare(&mut self) -> u32 {
-        if self.random.percent(20) {
-            self.random.word() & 0x0F00_0000
-        } else {
-            0
-        }
-    }
 }

@@ -1,14 +1,14 @@
 //! A line of a script that says something, read.
 
 use crate::digits;
+use crate::gateway::Side;
 
 const LONGEST_MESSAGE: usize = 300;
 const LARGEST_ROOM: u64 = 300;
 
 pub enum Command {
     Tick(u64),
-    Thermostat(u8, u32),
-    Boiler(u8, u32),
+    Frame(Side, u8, u32),
     Modbus(Vec<u8>),
     Room(usize),
 }
@@ -19,10 +19,8 @@ impl Command {
         let fields: Vec<&[u8]> = line.split(|byte| *byte == b' ').collect();
         match fields[..] {
             [b"tick", count] => Some(Command::Tick(number(count, 1, 4_294_967_295)?)),
-            [b"thermostat", line, word] => {
-                Some(Command::Thermostat(line_number(line)?, hex_word(word)?))
-            }
-            [b"boiler", line, word] => Some(Command::Boiler(line_number(line)?, hex_word(word)?)),
+            [b"thermostat", line, word] => frame(Side::Thermostat, line, word),
+            [b"boiler", line, word] => frame(Side::Boiler, line, word),
             [b"modbus"] => Some(Command::Modbus(Vec::new())),
             [b"modbus", bytes] => Some(Command::Modbus(message(bytes)?)),
             [b"room", size] => Some(Command::Room(number(size, 0, LARGEST_ROOM)? as usize)),
@@ -48,8 +46,9 @@ fn number(digits: &[u8], least: u64, most: u64) -> Option<u64> {
     (least..=most).contains(&number).then_some(number)
 }
 
-fn line_number(digits: &[u8]) -> Option<u8> {
-    number(digits, 0, 255).map(|line| line as u8)
+fn frame(side: Side, line: &[u8], word: &[u8]) -> Option<Command> {
+    let line = number(line, 0, 255)? as u8;
+    Some(Command::Frame(side, line, hex_word(word)?))
 }
 
 fn hex_word(digits: &[u8]) -> Option<u32> {

@@ -5,8 +5,9 @@ use std::io::{self, Write};
 use super::command::Command;
 use super::stream::Program;
 use crate::digits::pairs;
-use crate::gateway::{Event, Gateway};
+use crate::gateway::{Event, Gateway, Side};
 use crate::tally::{Tally, Thing};
+use crate::word;
 
 const LONGEST_LINE: usize = 1024;
 const ROOM_AT_START: usize = 256;
@@ -60,11 +61,22 @@ impl Replay {
                 self.room = room;
                 return Ok(());
             }
-            Command::Thermostat(line, word) => self.gateway.thermostat(line, word),
-            Command::Boiler(line, word) => self.gateway.boiler(line, word, self.room),
+            Command::Frame(side, line, word) => self.frame(side, line, word),
             Command::Modbus(message) => self.gateway.message(&message, self.room),
         };
         self.print(&event, trace)
+    }
+
+    /// Where a spare bit is set, the box as it was is asked what the frame would have brought
+    /// without it; that alone shows what 16 stands before, and it is counted.
+    fn frame(&mut self, side: Side, line: u8, frame: u32) -> Event {
+        let mut before = self.gateway.clone();
+        let given = self.gateway.frame(side, line, frame, self.room);
+        if word::spare_of(frame) != 0 {
+            let otherwise = before.frame(side, line, word::without_spare(frame), self.room);
+            self.tally.spare_frame(side, frame, &given, &otherwise);
+        }
+        given
     }
 
     /// "`tick N` prints exactly what N lines `tick 1` would"; "refused ticks don't count".

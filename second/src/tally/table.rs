@@ -1,5 +1,6 @@
 //! The counts as a table, and what is missing from it.
 
+use super::entry::Entry;
 use super::{Tally, Thing, KINDS};
 use crate::modbus::{exceptions, Form, ROWS};
 use crate::word;
@@ -19,8 +20,8 @@ const AS_OUTCOME: [u8; 3] = [
 ];
 
 /// The shortest and the longest wait an order can have, which both must be seen.
-const SHORTEST_WAIT: u32 = 85;
-const LONGEST_WAIT: u32 = 1950;
+const SHORTEST_WAIT: u64 = 85;
+const LONGEST_WAIT: u64 = 1950;
 
 /// The things that each have a line of their own.
 const PLAIN: [(&str, Thing); 14] = [
@@ -40,8 +41,9 @@ const PLAIN: [(&str, Thing); 14] = [
     ("boiler frames dropped", Thing::Dropped),
 ];
 
-/// What must have occurred, each thing with its name, in the table's order.
-fn wanted() -> Vec<(String, Thing)> {
+/// Things that must have occurred, each with its name, in the table's order. Refusal 16 is counted
+/// for each side, with the spare bits.
+fn plain_and_refusals() -> Vec<(String, Thing)> {
     let mut all: Vec<(String, Thing)> = PLAIN.map(|(name, thing)| (name.into(), thing)).into();
     for kind in KINDS {
         all.push((format!("listed: {kind}"), Thing::KindListed(kind)));
@@ -49,6 +51,11 @@ fn wanted() -> Vec<(String, Thing)> {
     for number in 1..=15 {
         all.push((format!("refusal {number}"), Thing::Refusal(number)));
     }
+    all
+}
+
+fn modbus() -> Vec<(String, Thing)> {
+    let mut all = Vec::new();
     for (place, row) in ROWS.iter().enumerate() {
         all.push((format!("accepted: {}", row.name), Thing::Accepted(place)));
     }
@@ -58,7 +65,7 @@ fn wanted() -> Vec<(String, Thing)> {
             all.push((name, Thing::NormalReply(place)));
         }
     }
-    all.extend(wanted_outcomes());
+    all.extend(outcomes());
     for code in AT_ONCE {
         let name = format!("exception {code:02X} at once, units 1 to 4");
         all.push((name, Thing::ExceptionAtOnce(code)));
@@ -76,7 +83,7 @@ fn wanted() -> Vec<(String, Thing)> {
 }
 
 /// An INVALID-DATA can't be acknowledged, so those places aren't asked for.
-fn wanted_outcomes() -> Vec<(String, Thing)> {
+fn outcomes() -> Vec<(String, Thing)> {
     let mut all = Vec::new();
     for (place, row) in ROWS.iter().enumerate() {
         let acknowledged = match row.question {
@@ -98,37 +105,26 @@ fn wanted_outcomes() -> Vec<(String, Thing)> {
 }
 
 impl Tally {
-    pub fn table(&self) -> String {
-        let mut rows: Vec<(String, u64)> = wanted()
-            .into_iter()
-            .map(|(name, thing)| (name, self.of(thing)))
-            .collect();
+    fn entries(&self) -> Vec<Entry> {
+        let counted = |(name, thing): (String, Thing)| Entry::once(name, self.of(thing));
+        let mut all: Vec<Entry> = plain_and_refusals().into_iter().map(counted).collect();
+        all.extend(self.spare_entries());
+        all.extend(modbus().into_iter().map(counted));
         // Not every round has a short tail; a fixed vector always has one.
-        rows.push(("listed: short tail".into(), self.of(Thing::ShortListed)));
+        let short = self.of(Thing::ShortListed);
+        all.push(Entry::shown("listed: short tail", short));
         let (least, most) = self.waits.unwrap_or((0, 0));
-        rows.push(("shortest wait".into(), least.into()));
-        rows.push(("longest wait".into(), most.into()));
-        rows.iter()
-            .map(|(name, count)| format!("{count:>12}  {name}\n"))
-            .collect()
+        all.push(Entry::exactly(SHORTEST_WAIT, "shortest wait", least.into()));
+        all.push(Entry::exactly(LONGEST_WAIT, "longest wait", most.into()));
+        all
+    }
+
+    pub fn table(&self) -> String {
+        self.entries().iter().map(Entry::line).collect()
     }
 
     /// What never occurred.
     pub fn missing(&self) -> Vec<String> {
-        let mut missing: Vec<String> = wanted()
-            .into_iter()
-            .filter(|(_, thing)| self.of(*thing) == 0)
-            .map(|(name, _)| name)
-            .collect();
-        let (least, most) = self.waits.unwrap_or((0, 0));
-        if least != SHORTEST_WAIT {
-            missing.push(format!(
-                "a wait of {SHORTEST_WAIT} (shortest seen: {least})"
-            ));
-        }
-        if most != LONGEST_WAIT {
-            missing.push(format!("a wait of {LONGEST_WAIT} (longest seen: {most})"));
-        }
-        missing
+        self.entries().iter().filter_map(Entry::lack).collect()
     }
 }

@@ -1,6 +1,7 @@
 //! Frames of a script: the thermostat's, a boiler's answer that fits, and one that is wrong somewhere.
 
 use super::{End, Script, ENDS, LONGEST_WAITS};
+use crate::generator::splice;
 use crate::line::{Owner, State};
 use crate::word;
 
@@ -22,13 +23,16 @@ impl Script {
             kind = self.random.between(3, 7) as u32;
         }
         let value = u32::from(self.random.word() as u16);
-        let mut frame = kind << 28 | u32::from(self.id()) << 16 | value | self.spare();
+        let mut frame = kind << 28 | u32::from(self.id()) << 16 | value;
         if self.random.percent(20) {
             // The word of a talk once more: later is later, though nothing in it is new.
             let place = (line as usize).clamp(1, 4) - 1;
             frame = self.talked(place).unwrap_or(frame);
         }
-        let frame = word::with_even_parity(frame) ^ u32::from(odd) << 31;
+        frame = word::with_even_parity(frame) ^ u32::from(odd) << 31;
+        if self.random.percent(20) {
+            frame = splice::noisy(&mut self.random, frame);
+        }
         self.frame("thermostat", line, frame);
     }
 
@@ -49,11 +53,12 @@ impl Script {
             _ => word::DATA_INVALID,
         };
         let value = self.random.word() as u16;
-        let frame = word::build(kind, word::id_of(question), value).expect("a type up to 7");
-        word::with_even_parity(frame | self.spare())
+        word::build(kind, word::id_of(question), value).expect("a type up to 7")
     }
 
-    /// A frame that matches the line's talk, whatever its age; nothing where it rests.
+    /// A frame that matches the line's talk, whatever its age; nothing where it rests. Now and then
+    /// it comes spoilt first: nothing may come of that, and the good one still counts. Where silence
+    /// is planned the spoilt one comes alone.
     pub(super) fn shoot(&mut self, place: usize) {
         let Some(question) = self.talked(place) else {
             return;
@@ -63,11 +68,15 @@ impl Script {
             (Owner::Modbus, Some(plan)) => plan.end,
             _ => self.random.pick(&ENDS[..3]),
         };
+        let (line, frame) = (place as u64 + 1, self.answer(question, end));
+        if end == End::Silent || self.random.percent(20) {
+            let spoilt = splice::spoilt(&mut self.random, frame);
+            self.frame("boiler", line, spoilt);
+        }
         if end == End::Silent {
             return;
         }
-        let frame = self.answer(question, end);
-        self.frame("boiler", place as u64 + 1, frame);
+        self.frame("boiler", line, frame);
         let spent = self.longest_waits >= LONGEST_WAITS;
         if owner == Owner::Modbus && !spent && self.random.percent(3) {
             self.longest_wait();
@@ -84,22 +93,13 @@ impl Script {
         }
     }
 
-    /// A boiler frame with something wrong, or with two things wrong at once.
+    /// A boiler frame with something wrong, or with several things wrong at once.
     pub(super) fn wrong_frame(&mut self, place: usize) {
         let question = self.talked(place).unwrap_or(u32::from(self.id()) << 16);
-        let good = self.answer(question, End::Acknowledged);
-        let wrong_kind = good ^ self.random.pick(&[0x1000_0000, 0x2000_0000, 0x3000_0000]);
-        let from_master = good & 0x3FFF_FFFF;
-        let other_id = good ^ 0x0001_0000 << self.random.below(8);
-        let frame = match self.random.below(8) {
-            0 | 7 => word::with_even_parity(wrong_kind),
-            1 => word::with_even_parity(other_id),
-            2 => good ^ 0x8000_0000,
-            3 => word::with_even_parity(from_master),
-            4 => word::with_even_parity(from_master) ^ 0x8000_0000,
-            5 => word::with_even_parity(self.random.word()),
-            _ => self.random.word(),
-        };
+        let mut frame = self.wrong_answer(question);
+        if self.random.percent(20) {
+            frame = splice::noisy(&mut self.random, frame);
+        }
         if self.planned_silence() && word::matches(question, frame) {
             return;
         }
@@ -109,5 +109,22 @@ impl Script {
             _ => place as u64 + 1,
         };
         self.frame("boiler", line, frame);
+    }
+
+    fn wrong_answer(&mut self, question: u32) -> u32 {
+        let good = self.answer(question, End::Acknowledged);
+        let wrong_kind = good ^ self.random.pick(&[0x1000_0000, 0x2000_0000, 0x3000_0000]);
+        let from_master = good & 0x3FFF_FFFF;
+        let other_id = good ^ 0x0001_0000 << self.random.below(8);
+        match self.random.below(10) {
+            0 | 1 => word::with_even_parity(wrong_kind),
+            2 | 3 => word::with_even_parity(other_id),
+            4 => good ^ 0x8000_0000,
+            5 => word::with_even_parity(from_master),
+            6 => word::with_even_parity(from_master) ^ 0x8000_0000,
+            7 => word::without_spare(self.random.word()),
+            8 => self.random.word(),
+            _ => splice::spoilt(&mut self.random, good),
+        }
     }
 }

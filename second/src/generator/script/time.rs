@@ -43,7 +43,11 @@ impl Script {
         if owner == Owner::Modbus && self.planned_silence() {
             let few = age + self.random.between(1, 200);
             let target = self.random.pick(&[83, 84, 873, 874, 875, 875, few]);
-            return self.tick_up_to(place, age, target.min(875));
+            self.tick_up_to(place, age, target.min(875));
+            if self.random.percent(30) {
+                self.shoot(place);
+            }
+            return;
         }
         let target = match self.random.below(100) {
             0..=29 => 83,
@@ -95,10 +99,13 @@ impl Script {
 
     /// A line that ends no talk and takes no order.
     pub(super) fn harmless(&mut self) {
-        let line = match self.random.below(4) {
+        let line = match self.random.below(6) {
             0 => b"thermostat 9 80190000".to_vec(),
             1 => b"boiler 1 00190000".to_vec(),
             2 => b"modbus 0503007600016454".to_vec(),
+            // Good but for a spare bit.
+            3 => b"thermostat 1 01190000".to_vec(),
+            4 => b"boiler 1 C1193280".to_vec(),
             _ => strange_lines::comment(&mut self.random),
         };
         self.say(&line);
