@@ -52,7 +52,7 @@ pub record Alike (v w : ℕ) : Type 0 where
   pub id : idOf v ≡ idOf w
   pub value : valueOf v ≡ valueOf w
 
--- a good word for a line: "The number of ones is even", and "the spare bits, which should be zero" (02, Ask 1), are
+-- a good word for a line: "The number of ones is even", and its spare bits are zero, as they "should be" (02, Ask 1)
 pub record GoodWord (w : ℕ) : Type 0 where
   pub even : evenOf w ≡ true
   pub clear : spareOf w ≡ 0
