@@ -7,8 +7,7 @@ use Prim.Native.Nat.{ℕ, _%_, _^_, _<_}
 use lib.Dec.{eqb, lit<}
 use lib.Count.{onesIn}
 use Rattle.word.specs.Frame.{evenOf, typeOf, idOf, valueOf}
-use Rattle.word.specs.Fields.{Fields, Fit, wordOf, respared}
-use Rattle.word.proofs.Spare.{spare-unread}
+use Rattle.word.specs.Fields.{Alike}
 use Rattle.word.proofs.Worked.{counted}
 use Rattle.places.specs.Bytes.{pairAt, wordAt}
 use Rattle.text.specs.Text.{decimalOf, digitsIn, hexOf}
@@ -83,11 +82,10 @@ pub odd : (w : ℕ) → evenOf w ≡ false → listedOf w ≡ parity
 unfolding listedOf
 odd w e = rw e
 
--- "the listing stays" (02, Ask 1): a word that a line refuses for its spare bits is listed as one without them
-pub spare-listed : (f : Fields) (s : ℕ) → Fit f → s < 16 → evenOf (wordOf (respared s f)) ≡ evenOf (wordOf f) →
-    listedOf (wordOf (respared s f)) ≡ listedOf (wordOf f)
+-- "the listing stays" (02, Ask 1): two words of one parity, with one type, id and value, have one line, whatever their spare bits
+pub spare-listed : (v w : ℕ) → evenOf v ≡ evenOf w → Alike v w → listedOf v ≡ listedOf w
 unfolding listedOf listedFields
-spare-listed f s fit small same = let a = spare-unread f s fit small in rw (same, a .type, a .id, a .value)
+spare-listed v w same a = rw (same, a .type, a .id, a .value)
 
 -- the other kinds, numbers below 0, and large ones
 pub record EachKind : Type 0 where

@@ -1,4 +1,4 @@
--- 'Nothing left open by a contract' (01), said once for every function. `Post` is a function's own contract, as the check reads it:
+-- 'Nothing left open by a contract' (01), and what every result has that a contract allows, said once for every function. `Post` is a function's own contract, as the check reads it:
 -- of the arguments, the result and the parameters at exit.
 -- Assumes nothing.
 use mathlib.Core.Path.{_≡_}
@@ -7,6 +7,11 @@ use Prim.Native.Nat.{ℕ}
 use contract.Lifetimes.{Lfts}
 use denote.Triple.Clauses.{AtExit}
 use borrow.Fn.Kinds.{PK, RK, Dens, resT, endedOf, Out}
+
+-- each result that the contract allows, with the parameters at exit, is so
+abbrev pub Always : {n : ℕ} (ps : List (PK n)) (r : RK n) → Out n ps r →
+    ((κs : Lfts n) → Dens κs ps → resT r κs .Denot → AtExit (endedOf n ps r) κs → Type 0) → Type 0
+Always {n} ps r Post So = (κs : Lfts n) (a : Dens κs ps) (u : resT r κs .Denot) (x : AtExit (endedOf n ps r) κs) → Post κs a u x → So κs a u x
 
 -- two results that the contract allows are equal
 abbrev pub One : {n : ℕ} (ps : List (PK n)) (r : RK n) → Out n ps r → Type 0
