@@ -9,6 +9,7 @@ BEGIN {
     exception["02"] = "no such register, or the boiler doesn't know this id"
     exception["03"] = "a count, length or message that isn't served"
     exception["04"] = "the boiler has no valid value"
+    at_once["04"] = "no status of the thermostat's has gone out yet"
     exception["06"] = "busy, another order is under way"
     exception["0B"] = "no answer from the boiler"
     refusal[5] = "damaged: odd parity"
@@ -52,12 +53,21 @@ function id_of(word) { return number(substr(word, 3, 2)) }
 # A boiler's answer has a value only where it acknowledges.
 function answer(type, id, hex) { return type ~ /-ACK$/ ? value(id, hex) : type " " id }
 
+# In ids 0 and 70 the high byte of a READ-DATA is the master's own status.
+function question(word, id) {
+    id = id_of(word)
+    return type_of(word) " " id (type_of(word) == "READ-DATA" && (id == 0 || id == 70) ? ", status " substr(word, 5, 2) : "")
+}
+
+# An exception may mean something else at once than as an outcome.
+function excepted(code, outcome) { return "exception " code ": " (!outcome && code in at_once ? at_once[code] : exception[code]) }
+
 # A reply says no id, but for 06, 10 and 41: it is that of the question which went out last on its line.
-function reply(bytes, unit, code, id) {
+function reply(bytes, outcome, unit, code, id) {
     unit = number(substr(bytes, 1, 2))
     code = substr(bytes, 3, 2)
     id = id_of(asked[unit])
-    if (number(code) >= 128) return "exception " substr(bytes, 5, 2) ": " exception[substr(bytes, 5, 2)]
+    if (number(code) >= 128) return excepted(substr(bytes, 5, 2), outcome)
     if (unit == 5) return "version " number(substr(bytes, 7, 2)) "." number(substr(bytes, 9, 2))
     if (code == "06") return "written, and the boiler says " value(id, substr(bytes, 9, 4))
     if (code == "41") return answer(types[number(substr(bytes, 15, 1)) + 1], id, substr(bytes, 9, 4))
@@ -68,12 +78,12 @@ function reply(bytes, unit, code, id) {
 
 function meaning() {
     if ($1 == "-") return "this line of the script is wrong"
-    if ($2 == "sent") return "to boiler " $3 ": " type_of($4) " " id_of($4)
+    if ($2 == "sent") return "to boiler " $3 ": " question($4)
     if ($2 == "passed") return "boiler " $3 "'s answer goes on to the thermostat: " answer(type_of($4), id_of($4), substr($4, 5, 4))
     if ($2 == "accepted") return "the question for unit " $3 " is taken"
     if ($2 == "held") return "the thermostat's frame waits for its turn"
     if ($2 == "dropped") return "nobody wants this answer any more"
-    if ($2 == "reply") return "unit " number(substr($3, 1, 2)) ": " reply($3) ($4 == "wait" ? ", after " $5 " ms" : "")
+    if ($2 == "reply") return "unit " number(substr($3, 1, 2)) ": " reply($3, $4 == "wait") ($4 == "wait" ? ", after " $5 " ms" : "")
     if ($2 == "refused") return refusal[$3]
     return ""
 }

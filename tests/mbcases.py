@@ -8,8 +8,8 @@ The requests and what 01 answers to each are typed by hand; only the checksum an
 bit. Messages are bytes in hexadecimal, and what is typed here leaves the checksum out.
 
 A line of stdin is a message. For it stdout has `silent N` (refusal N), `reply ..`, or `order LINE WORD` and the reply
-to each end that the order can have: the boiler's answer of type 4 or 5, of type 6, of type 7, none; and `busy`, the
-reply while another order waits. `+ ..` asks for the checksum of the bytes alone; `= ..` has the reply written into lent
+to each end that the order can have: the boiler's answer of type 4 or 5, of type 6, of type 7, none; of a read alone
+`lacking`, the reply where id 0 or 70 has no status to send; and `busy`, the reply while another order waits. `+ ..` asks for the checksum of the bytes alone; `= ..` has the reply written into lent
 rooms of 15, 16 and 20 bytes. A line with `#` is a title, in both.
 """
 
@@ -97,10 +97,11 @@ def reply(request, answer):
     case(sealed(request), "reply " + sealed(answer))
 
 
-def order(request, line, kind, data_id, value, acknowledged, invalid=None, unknown=None):
+def order(request, line, kind, data_id, value, acknowledged, invalid=None, unknown=None, alone=False):
     """An order: its question on the line, and the reply to each end, where the boiler's value is 3280.
 
-    Where the row has no reply of its own for them, type 6 is exception 04 and type 7 is 02.
+    Where the row has no reply of its own for them, type 6 is exception 04 and type 7 is 02. A read alone without a
+    status to send is 04 (02, Ask 2).
     """
     unit, function = octets(request)[:2]
 
@@ -112,6 +113,7 @@ def order(request, line, kind, data_id, value, acknowledged, invalid=None, unkno
         ("6", invalid or exception(0x04)),
         ("7", unknown or exception(0x02)),
         ("none", exception(0x0B)),
+        ("lacking", exception(0x04) if alone else None),
         ("busy", exception(0x06)),
     ]
     replies = [" %s %s" % (end, sealed(answer)) for end, answer in ends if answer]
@@ -246,16 +248,16 @@ def unit_5():
 def orders():
     title("each row of the table")
     # 03, 04
-    order("01 03 00 19 00 01", 1, READ_DATA, 25, 0x0000, "01 03 02 32 80")
-    order("02 04 FF 19 00 01", 2, READ_DATA, 25, 0x0000, "02 04 02 32 80")
+    order("01 03 00 19 00 01", 1, READ_DATA, 25, 0x0000, "01 03 02 32 80", alone=True)
+    order("02 04 FF 19 00 01", 2, READ_DATA, 25, 0x0000, "02 04 02 32 80", alone=True)
     # 06
     order("03 06 00 01 3C 00", 3, WRITE_DATA, 1, 0x3C00, "03 06 00 01 32 80")
     order("04 06 FF 01 3C 00", 4, WRITE_DATA, 1, 0x3C00, "04 06 FF 01 32 80")
     # 10
     order("01 10 00 01 00 01 02 3C 00", 1, WRITE_DATA, 1, 0x3C00, "01 10 00 01 00 01")
     # 17, read 1 write 0
-    order("02 17 00 19 00 01 12 34 00 00 00", 2, READ_DATA, 25, 0x0000, "02 17 02 32 80")
-    order("02 17 FF 19 00 01 12 34 00 00 00", 2, READ_DATA, 25, 0x0000, "02 17 02 32 80")
+    order("02 17 00 19 00 01 12 34 00 00 00", 2, READ_DATA, 25, 0x0000, "02 17 02 32 80", alone=True)
+    order("02 17 FF 19 00 01 12 34 00 00 00", 2, READ_DATA, 25, 0x0000, "02 17 02 32 80", alone=True)
     # 17, 0 and 1
     order("03 17 12 34 00 00 00 01 00 01 02 3C 00", 3, WRITE_DATA, 1, 0x3C00, "03 17 00")
     order("04 17 12 34 00 00 02 01 00 01 02 3C 00", 4, INVALID_DATA, 1, 0x3C00, None)
@@ -269,9 +271,17 @@ def orders():
     order("04 41 00 38 12 34 00 10", 4, WRITE_DATA, 56, 0x1234, "04 41 00 38 32 80 00 50", **others)
     order("04 41 00 38 12 34 00 20", 4, INVALID_DATA, 56, 0x1234, None, **others)
 
+    title("02, Ask 2: ids 0 and 70 by a read alone, at any offset; 17 with a value and 41 send their own")
+    order("01 03 00 00 00 01", 1, READ_DATA, 0, 0x0000, "01 03 02 32 80", alone=True)
+    order("02 04 05 00 00 01", 2, READ_DATA, 0, 0x0000, "02 04 02 32 80", alone=True)
+    order("03 17 01 46 00 01 00 00 00 00 00", 3, READ_DATA, 70, 0x0000, "03 17 02 32 80", alone=True)
+    order("04 17 00 46 00 01 00 46 00 01 02 03 00", 4, READ_DATA, 70, 0x0300, "04 17 02 32 80")
+    order("01 41 00 00 03 00 00 00", 1, READ_DATA, 0, 0x0300, "01 41 00 00 32 80 00 40",
+          invalid="01 41 00 00 32 80 00 60", unknown="01 41 00 00 32 80 00 70")
+
     title("requests of the Modbus specification, to unit 1")
     reply("01 03 00 6B 00 03", "01 83 03")
-    order("01 04 00 08 00 01", 1, READ_DATA, 8, 0x0000, "01 04 02 32 80")
+    order("01 04 00 08 00 01", 1, READ_DATA, 8, 0x0000, "01 04 02 32 80", alone=True)
     order("01 06 00 01 00 03", 1, WRITE_DATA, 1, 0x0003, "01 06 00 01 32 80")
     reply("01 10 00 01 00 02 04 00 0A 01 02", "01 90 03")
     reply("01 17 00 03 00 06 00 0E 00 03 06 00 FF 00 FF 00 FF", "01 97 03")

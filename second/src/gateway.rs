@@ -1,9 +1,10 @@
 //! The box: four lines, one order, the lent reply room (01, 'A line and its turns', 'Numbered
 //! answers').
 
-use crate::line::{Answered, Line, Ticked};
-use crate::modbus::{self, Judged, Order};
+use crate::line::{Answered, Line, Owner, Ticked};
+use crate::modbus::{self, exceptions, Judged, Order};
 use crate::refusals;
+use crate::status::Question;
 
 /// "Lent room below 16 bytes (reply)."
 const REPLY_ROOM: usize = 16;
@@ -19,6 +20,7 @@ pub enum Side {
 pub enum Event {
     Sent {
         line: u8,
+        owner: Owner,
         word: u32,
     },
     Passed {
@@ -30,6 +32,7 @@ pub enum Event {
     },
     Held {
         line: u8,
+        word: u32,
     },
     Accepted {
         order: Order,
@@ -76,6 +79,7 @@ impl Gateway {
                 Ticked::Nothing => {}
                 Ticked::Sent(word) => events.push(Event::Sent {
                     line: place as u8 + 1,
+                    owner: line.last,
                     word,
                 }),
                 Ticked::NoAnswer { wait } => outcome = Some(wait),
@@ -100,7 +104,7 @@ impl Gateway {
             return Event::Refused(refusals::LINE);
         }
         match self.lines[usize::from(line) - 1].thermostat(frame) {
-            Ok(()) => Event::Held { line },
+            Ok(()) => Event::Held { line, word: frame },
             Err(number) => Event::Refused(number),
         }
     }
@@ -126,15 +130,33 @@ impl Gateway {
         if room < REPLY_ROOM {
             return Event::Refused(refusals::ROOM);
         }
-        match modbus::judge(message, self.order.is_some()) {
+        match modbus::judge(message) {
             Judged::Refused(number) => Event::Refused(number),
             Judged::Reply(bytes) => Event::Reply { bytes },
-            Judged::Accepted(order) => {
-                self.lines[usize::from(order.unit) - 1].order(order.question);
-                self.order = Some(order);
-                Event::Accepted { order }
-            }
+            Judged::Order(order) => self.order(order),
         }
+    }
+
+    /// The last checks: "exception 04 at once where no such frame went out, after the offset check
+    /// and before 06" (02, Ask 2); "an order already waiting (06, units 1 to 4 only); accepted".
+    fn order(&mut self, order: Order) -> Event {
+        let line = &mut self.lines[usize::from(order.unit) - 1];
+        let unknown = match order.question {
+            Question::Status(id) => line.status.of(id).is_none(),
+            Question::Word(_) => false,
+        };
+        let at_once = |code| Event::Reply {
+            bytes: modbus::exception(order.unit, order.function, code),
+        };
+        if unknown {
+            return at_once(exceptions::DEVICE_FAILURE);
+        }
+        if self.order.is_some() {
+            return at_once(exceptions::DEVICE_BUSY);
+        }
+        line.order(order.question);
+        self.order = Some(order);
+        Event::Accepted { order }
     }
 
     /// "With each outcome comes the wait in ticks."

@@ -1,5 +1,6 @@
 //! One line: its turns and waiting times (01, 'A line and its turns').
 
+use crate::status::{Known, Question};
 use crate::{refusals, word};
 
 const REST_FULL: u32 = 100;
@@ -14,10 +15,17 @@ pub enum Owner {
     Modbus,
 }
 
-/// A thermostat frame or an order's question, with the ticks since it came.
+/// A thermostat frame, or an order whose word is being sent, with the ticks since it came.
 #[derive(Clone, Copy, PartialEq, Eq, Debug)]
 pub struct Item {
     pub word: u32,
+    pub age: u32,
+}
+
+/// An order that waits, with the ticks since it came. Its word is made when it goes out.
+#[derive(Clone, Copy, PartialEq, Eq, Debug)]
+pub struct Waiting {
+    pub question: Question,
     pub age: u32,
 }
 
@@ -30,13 +38,14 @@ pub enum State {
 }
 
 /// "It has room for one held thermostat frame and one waiting order, and knows who talked
-/// last."
+/// last." From 02's Ask 2 on it knows its thermostat's status too.
 #[derive(Clone, Copy, PartialEq, Eq, Debug)]
 pub struct Line {
     pub state: State,
     pub held: Option<Item>,
-    pub order: Option<Item>,
+    pub order: Option<Waiting>,
     pub last: Owner,
+    pub status: Known,
 }
 
 #[derive(Clone, Copy, PartialEq, Eq, Debug)]
@@ -62,13 +71,17 @@ impl Line {
             held: None,
             order: None,
             last: Owner::Modbus,
+            status: Known::fresh(),
         }
     }
 
     pub fn tick(&mut self) -> Ticked {
         // "The held frame and the order grow one tick older, a frame or order being sent too."
-        for item in [&mut self.held, &mut self.order].into_iter().flatten() {
-            item.age += 1;
+        if let Some(frame) = &mut self.held {
+            frame.age += 1;
+        }
+        if let Some(order) = &mut self.order {
+            order.age += 1;
         }
         match &mut self.state {
             State::Talks { owner, item, age } => {
@@ -99,7 +112,7 @@ impl Line {
         }
     }
 
-    /// "If both wait, the one that didn't talk last goes first. The word goes out unchanged."
+    /// "If both wait, the one that didn't talk last goes first."
     fn start_talk(&mut self) -> Ticked {
         let owner = match (self.held, self.order, self.last) {
             (None, None, _) => return Ticked::Nothing,
@@ -108,11 +121,11 @@ impl Line {
             (Some(_), Some(_), Owner::Modbus) => Owner::Thermostat,
             (Some(_), Some(_), Owner::Thermostat) => Owner::Modbus,
         };
-        let place = match owner {
-            Owner::Thermostat => &mut self.held,
-            Owner::Modbus => &mut self.order,
+        let goes = match owner {
+            Owner::Thermostat => self.held_goes_out(),
+            Owner::Modbus => self.order_goes_out(),
         };
-        match place.take() {
+        match goes {
             Some(item) => {
                 self.state = State::Talks {
                     owner,
@@ -124,6 +137,19 @@ impl Line {
             }
             None => Ticked::Nothing,
         }
+    }
+
+    /// "The word goes out unchanged."
+    fn held_goes_out(&mut self) -> Option<Item> {
+        let frame = self.held.take()?;
+        self.status.went_out(frame.word);
+        Some(frame)
+    }
+
+    fn order_goes_out(&mut self) -> Option<Item> {
+        let Waiting { question, age } = self.order.take()?;
+        let word = self.status.word_of(question);
+        Some(Item { word, age })
     }
 
     /// "A thermostat frame of type 0 to 2 becomes the held frame, in place of an older one,
@@ -140,11 +166,8 @@ impl Line {
         Ok(())
     }
 
-    pub fn order(&mut self, question: u32) {
-        self.order = Some(Item {
-            word: question,
-            age: 0,
-        });
+    pub fn order(&mut self, question: Question) {
+        self.order = Some(Waiting { question, age: 0 });
     }
 
     /// "Order: 15, 9, 5, 6, 7, 8", with 16 "after 5 and before 6" (02, Ask 1); the first two are

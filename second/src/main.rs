@@ -7,6 +7,7 @@ mod line;
 mod modbus;
 mod refusals;
 mod samples;
+mod status;
 mod values;
 mod word;
 

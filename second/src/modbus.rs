@@ -7,9 +7,10 @@ mod request;
 mod rows;
 
 pub use checksum::{checksum, closed};
-pub use reply::{outcome, Order};
+pub use reply::{exception, outcome, Order};
 pub use rows::{Form, ROWS};
 
+use crate::status::{self, Question};
 use crate::{refusals, word};
 use request::Request;
 use rows::Row;
@@ -22,13 +23,14 @@ const VERSION: u16 = 0x0100;
 pub enum Judged {
     Refused(u8),
     Reply(Vec<u8>),
-    Accepted(Order),
+    /// Good by its form; the last checks are the box's.
+    Order(Order),
 }
 
 /// "Order of checks: length 4 to 256; checksum; unit 1 to 5; function below 80; function served
 /// (else exception 01); exact length and byte count, then counts (03); offset (02); type for 41
-/// (03); an order already waiting (06, units 1 to 4 only); accepted."
-pub fn judge(message: &[u8], order_waits: bool) -> Judged {
+/// (03)"; what follows looks at the box (`Gateway::message`).
+pub fn judge(message: &[u8]) -> Judged {
     if !(4..=256).contains(&message.len()) {
         return Judged::Refused(refusals::MODBUS_LENGTH);
     }
@@ -43,12 +45,12 @@ pub fn judge(message: &[u8], order_waits: bool) -> Judged {
     if function >= 0x80 {
         return Judged::Refused(refusals::MODBUS_FUNCTION);
     }
-    let answer = answer_for(unit, function, &content[2..], order_waits);
+    let answer = answer_for(unit, function, &content[2..]);
     answer.unwrap_or_else(|code| Judged::Reply(reply::exception(unit, function, code)))
 }
 
 /// The checks that are answered; an error is an exception's code.
-fn answer_for(unit: u8, function: u8, body: &[u8], order_waits: bool) -> Result<Judged, u8> {
+fn answer_for(unit: u8, function: u8, body: &[u8]) -> Result<Judged, u8> {
     if !served(unit, function) {
         return Err(exceptions::ILLEGAL_FUNCTION);
     }
@@ -66,11 +68,8 @@ fn answer_for(unit: u8, function: u8, body: &[u8], order_waits: bool) -> Result<
         .into_iter()
         .find(|place| ROWS[*place].message == request.message)
         .ok_or(exceptions::ILLEGAL_VALUE)?;
-    if order_waits {
-        return Err(exceptions::DEVICE_BUSY);
-    }
     let question = question(&ROWS[row], &request);
-    Ok(Judged::Accepted(Order {
+    Ok(Judged::Order(Order {
         unit,
         function,
         offset: request.offset,
@@ -98,11 +97,15 @@ fn names(row: &Row, function: u8, request: &Request) -> bool {
     row.function == function && row.counts == request.counts && page_named
 }
 
-/// "The id is the offset's low byte."
-fn question(row: &Row, request: &Request) -> u32 {
+/// "The id is the offset's low byte." The rows that send no value are those of "codes 03 and 04
+/// and code 17 with a read alone"; 01's value 0 in them "is wrong" for ids 0 and 70 (02, Ask 2).
+fn question(row: &Row, request: &Request) -> Question {
     let id = (request.offset & 0xFF) as u8;
+    if !row.sends_value && status::IDS.contains(&id) {
+        return Question::Status(id);
+    }
     let value = if row.sends_value { request.value } else { 0 };
-    word::build(row.question, id, value).expect("a row's type is at most 2")
+    Question::Word(word::build(row.question, id, value).expect("a row's type is at most 2"))
 }
 
 /// "Register 0076 reads 0100 (version 1.0); writing it, and every other register, is 02."

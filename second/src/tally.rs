@@ -1,7 +1,10 @@
 //! How often each thing occurred, so that a comparison that never tried something says so.
 
 mod entry;
+mod grounds;
+mod history;
 mod spare;
+mod status;
 mod table;
 
 use std::collections::{BTreeMap, BTreeSet};
@@ -9,8 +12,10 @@ use std::collections::{BTreeMap, BTreeSet};
 use crate::digits;
 use crate::gateway::Event;
 use crate::word;
+use history::History;
 
 pub use spare::Spare;
+pub use status::Status;
 
 /// The kinds as the listing prints them.
 const KINDS: [&str; 6] = ["real", "s16", "u16", "pair", "spair", "raw"];
@@ -44,6 +49,7 @@ pub enum Thing {
     OwnRead,
     OwnException(u8),
     Spare(Spare),
+    Status(Status),
 }
 
 #[derive(Default)]
@@ -53,6 +59,8 @@ pub struct Tally {
     waits: Option<(u32, u32)>,
     /// The lines whose talk would have been answered, had there been no spare bits.
     spoilt: BTreeSet<u8>,
+    /// The thermostats' status so far.
+    history: History,
 }
 
 impl Tally {
@@ -84,6 +92,7 @@ impl Tally {
 
     pub fn event(&mut self, event: &Event) {
         self.end_of_talk(event);
+        self.status_event(event);
         match event {
             Event::Sent { .. } => self.count(Thing::Sent),
             Event::Passed { .. } => self.count(Thing::Passed),

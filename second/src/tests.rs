@@ -1,10 +1,13 @@
 //! The paper's tried numbers P1 to P12, its 'Run:' numbers, the table's counts, published checksums,
-//! the spare bits of 02's Ask 1 and the fixed vectors, on this program alone.
+//! the spare bits of 02's Ask 1, the status of its Ask 2 and the fixed vectors, on this program alone.
 
+mod bench;
 mod programs;
 mod samples;
 mod spare;
+mod status;
 mod tally;
 mod turns;
 mod values;
+mod went_out;
 mod words;

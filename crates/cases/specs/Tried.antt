@@ -4,7 +4,7 @@
 use mathlib.Core.Path.{_≡_}
 use mathlib.Core.Bool.{true, false}
 use mathlib.Core.List.{[], _∷_}
-use Prim.Native.Nat.{_≤_}
+use Prim.Native.Nat.{ℕ, _≤_}
 use lib.Ieee.{binary32, toBits}
 use lib.Ieee.Exact.{HasValue}
 use Rattle.word.specs.declared.Built.the-variants.{Word}
@@ -13,7 +13,6 @@ use Rattle.word.specs.Fields.{GoodWord}
 use Rattle.word.specs.Frame.{typeOf, matchesOf, builtOf, read-data, write-data, unknown-dataid, data-invalid}
 use Rattle.values.specs.Real.{realOf}
 use Rattle.crc.specs.Crc.{sealed}
-use Rattle.turns.specs.declared.Query.{Query}
 use Rattle.turns.specs.Turns.{tickOf, boilerOf}
 use Rattle.turns.specs.Events.{noteOf, answer, no-answer, refused}
 use Rattle.turns.specs.Cases.{ticksLater, asking, crowded}
@@ -39,14 +38,14 @@ pub record Tried : Type 0 where
   pub p7-is : HasValue (realOf 0x8000) true 128 1
   -- P8 checksum of 05 03 00 76 00 01 goes out 64 54 (003)
   pub p8 : sealed (0x05 ∷ 0x03 ∷ 0x00 ∷ 0x76 ∷ 0x00 ∷ 0x01 ∷ []) ≡ 0x05 ∷ 0x03 ∷ 0x00 ∷ 0x76 ∷ 0x00 ∷ 0x01 ∷ 0x64 ∷ 0x54 ∷ []
-  -- P9 a match at age 84 counts, at 83 is refusal 7: any question w, any frame b that matches it
-  pub p9 : (w : Query) (b : Frame) → matchesOf (w .word) (b .word) ≡ true →
+  -- P9 a match at age 84 counts, at 83 is refusal 7: any word w of a question, any frame b that matches it
+  pub p9 : (w : ℕ) (b : Frame) → matchesOf w (b .word) ≡ true →
       (noteOf (boilerOf (asking w 84) b .said) ≡ answer b 184) × (noteOf (boilerOf (asking w 83) b .said) ≡ refused 7)
   -- P10 at 874 counts; tick 875 gives no answer
-  pub p10 : (w : Query) (b : Frame) → matchesOf (w .word) (b .word) ≡ true →
+  pub p10 : (w : ℕ) (b : Frame) → matchesOf w (b .word) ≡ true →
       (noteOf (boilerOf (asking w 874) b .said) ≡ answer b 974) × (noteOf (tickOf (asking w 874) .said) ≡ no-answer 975)
   -- P11 a middle edge at 17 is refusal 1, at 18 and 23 good
   pub p11 : Gives p11-cases
   -- P12 an order taken at rest 0 after a Modbus talk, thermostat frame held, silent boiler: outcome at tick 1,950
-  pub p12 : (v w : Query) (f : Frame) → GoodWord (f .word) → typeOf (f .word) ≤ 2 →
+  pub p12 : (v w : ℕ) (f : Frame) → GoodWord (f .word) → typeOf (f .word) ≤ 2 →
       noteOf (tickOf (ticksLater 1949 (crowded v w f)) .said) ≡ no-answer 1950

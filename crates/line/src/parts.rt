@@ -2,20 +2,22 @@
 use crate::Line;
 use crate::Queue;
 use crate::Slot;
+use crate::Status;
 use crate::Talker;
 use crate::Turn;
 ghost use mathlib.Core.Path.{_≡_};
 ghost use Rattle.line.specs.Reads.{asLine};
-ghost use Rattle.turns.specs.Line.{line as ofParts, withTurn, withHeld, withOrder, withLast};
+ghost use Rattle.turns.specs.Line.{line as ofParts, withTurn, withHeld, withOrder, withLast, withStatus};
 
-pub(crate) fn made(turn: Turn, held: Slot, order: Queue, last: Talker) -> Line
-    ensures { λ r. ⌜ asLine r ≡ ofParts turn held order last ⌝ }
+pub(crate) fn made(turn: Turn, held: Slot, order: Queue, last: Talker, status: Status) -> Line
+    ensures { λ r. ⌜ asLine r ≡ ofParts turn held order last status ⌝ }
 {
     Line {
         turn: turn,
         held: held,
         order: order,
         last: last,
+        status: status,
     }
 }
 
@@ -25,7 +27,8 @@ pub(crate) fn with_turn(line: Line, turn: Turn) -> Line
     let held = line.held;
     let order = line.order;
     let last = line.last;
-    made(turn, held, order, last)
+    let status = line.status;
+    made(turn, held, order, last, status)
 }
 
 pub(crate) fn with_held(line: Line, held: Slot) -> Line
@@ -34,7 +37,8 @@ pub(crate) fn with_held(line: Line, held: Slot) -> Line
     let turn = line.turn;
     let order = line.order;
     let last = line.last;
-    made(turn, held, order, last)
+    let status = line.status;
+    made(turn, held, order, last, status)
 }
 
 pub(crate) fn with_order(line: Line, order: Queue) -> Line
@@ -43,7 +47,8 @@ pub(crate) fn with_order(line: Line, order: Queue) -> Line
     let turn = line.turn;
     let held = line.held;
     let last = line.last;
-    made(turn, held, order, last)
+    let status = line.status;
+    made(turn, held, order, last, status)
 }
 
 pub(crate) fn with_last(line: Line, last: Talker) -> Line
@@ -52,5 +57,16 @@ pub(crate) fn with_last(line: Line, last: Talker) -> Line
     let turn = line.turn;
     let held = line.held;
     let order = line.order;
-    made(turn, held, order, last)
+    let status = line.status;
+    made(turn, held, order, last, status)
+}
+
+pub(crate) fn with_status(line: Line, status: Status) -> Line
+    ensures { λ r. ⌜ asLine r ≡ withStatus (asLine line) status ⌝ }
+{
+    let turn = line.turn;
+    let held = line.held;
+    let order = line.order;
+    let last = line.last;
+    made(turn, held, order, last, status)
 }

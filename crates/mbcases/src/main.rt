@@ -1,7 +1,8 @@
 // Runs Modbus messages and prints what becomes of each. Standard input has a message to a line, in hexadecimal; a line that begins
 // with # is copied, one that begins with + is given its checksum, as it goes out, and the reply at once to one that begins with = is
 // written into rooms of 15, 16 and 20 bytes. For an accepted order the line, the word that goes out and the replies follow: to an
-// acknowledgement with the value 3280, to types 6 and 7, to no answer, and where another order waits.
+// acknowledgement with the value 3280, to types 6 and 7, to no answer, of a read alone where there is no status to send, and where another order
+// waits.
 use libc::STDIN_FILENO;
 use libc::STDOUT_FILENO;
 use modbus::Order;
@@ -81,8 +82,12 @@ fn order(o: Order) {
     outcome(o, 7);
     say(b" none");
     reply(replies::answer(o, Outcome::NoAnswer));
+    if q.alone {
+        say(b" lacking");
+        reply(replies::exception(o, 0x04));
+    }
     say(b" busy");
-    reply(replies::busy(o));
+    reply(replies::exception(o, 0x06));
 }
 
 fn message(s: &[u8]) {

@@ -1,5 +1,5 @@
 -- The replies to a request by a row of 01's table are those that the table prints, byte by byte, for every unit, offset and value: to a boiler
--- frame of type 4 to 7, whatever its value, to no answer, and where another order waits.
+-- frame of type 4 to 7, whatever its value, to no answer, where there is no status to send, and where another order waits.
 -- Assumes nothing.
 use Prim.Native.Nat.{ℕ, _%_, _<_}
 use mathlib.Core.Path.{_≡_, sym, ap, _∙_}
@@ -11,7 +11,7 @@ use Rattle.modbus.specs.declared.Reading.{Reading}
 use Rattle.modbus.specs.declared.Reading.the-variants.{Silent, AtOnce, Accepted}
 use Rattle.modbus.specs.declared.Reply.the-variants.{Exception}
 use Rattle.modbus.specs.Numbers.{readingVerdict}
-use Rattle.modbus.specs.Outcomes.{busyOf, codeOf, ordinaryOf, ofInvalid, normalOf, answerOf}
+use Rattle.modbus.specs.Outcomes.{lackingOf, busyOf, codeOf, ordinaryOf, ofInvalid, normalOf, answerOf}
 use Rattle.modbus.specs.Wire.{bodyOf}
 use Rattle.modbus.specs.Table.{
   TableRow,
@@ -39,6 +39,7 @@ use Rattle.modbus.proofs.Verdicts.{reading, typed, reading-back}
 abbrev pub replies : Order → ℕ → ReplyBodies
 replies o v =
     record {
+      lacking = bodyOf (lackingOf o);
       busy = bodyOf (busyOf o);
       four = bodyOf (answerOf o (Answer 4 v));
       five = bodyOf (answerOf o (Answer 5 v));
@@ -49,8 +50,8 @@ replies o v =
 
 module _ (u p w v : ℕ) where
   of : Reading → ReplyBodies
-  of (Silent n) = record { busy = []; four = []; five = []; six = []; seven = []; none = [] }
-  of (AtOnce r) = record { busy = []; four = []; five = []; six = []; seven = []; none = [] }
+  of (Silent n) = record { lacking = []; busy = []; four = []; five = []; six = []; seven = []; none = [] }
+  of (AtOnce r) = record { lacking = []; busy = []; four = []; five = []; six = []; seven = []; none = [] }
   of (Accepted o) = replies o v
 
   as-replied-in : (r : TableRow) {x : Reading} → x ≡ reading (askedIn r u p w) → of x ≡ repliesIn r u p v

@@ -8,8 +8,7 @@ use native.Mathlib.Numerals.{add-one}
 use lib.ListN.{length, getD, drop}
 use lib.Seq.{drop-cons}
 use Rattle.modbus.specs.declared.Form.the-variants as form
-use Rattle.modbus.specs.declared.QuestionType.the-variants.{ReadData}
-use Rattle.modbus.specs.declared.rows.Asks.the-variants.{Always}
+use Rattle.modbus.specs.declared.rows.Asks.the-variants.{Alone}
 use Rattle.modbus.specs.declared.rows.Found.the-variants.{First}
 use Rattle.modbus.specs.declared.rows.Page.the-variants.{Any}
 use Rattle.modbus.specs.declared.rows.Row.{Row}
@@ -18,7 +17,7 @@ use Rattle.modbus.specs.Mapping.{row, fitsOf, firstOf}
 
 -- what a look-up past the end would read
 abbrev pub blank : Row
-blank = row 0 0 0 Any (Always ReadData) form.Value
+blank = row 0 0 0 Any Alone form.Value
 
 module _ (l : List Row) (a : Fields) (i : ℕ) (h : i < length l) where
   step : firstOf (drop i l) a ≡ cond (fitsOf (getD l i blank) a) (First (getD l i blank)) (firstOf (drop (i + 1) l) a)

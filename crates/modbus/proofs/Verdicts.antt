@@ -38,8 +38,8 @@ reading (two-value u f v) = AtOnce (Value u f v)
 reading (offset-value u f o v) = AtOnce (Offset u f o v)
 reading (nought u f) = AtOnce (Zero u f)
 reading (offset-value-type u o v t) = AtOnce (Whole u o v t)
-reading (order l t i v f o m) =
-    Accepted (record { line = l; question = record { t = typed t; id = i; value = v }; function = f; offset = o; form = m })
+reading (order l t i v a f o m) =
+    Accepted (record { line = l; question = record { t = typed t; id = i; value = v; alone = a }; function = f; offset = o; form = m })
 reading (bytes n) = Silent n
 
 typed-back : (t : QuestionType) → typed (typeNumber t) ≡ t
@@ -63,7 +63,7 @@ reading-back (AtOnce r) = reply-back r
 reading-back (Accepted o) =
     ap (λ (t : QuestionType). Accepted (record {
       line = o .line;
-      question = record { t = t; id = o .question .id; value = o .question .value };
+      question = record { t = t; id = o .question .id; value = o .question .value; alone = o .question .alone };
       function = o .function;
       offset = o .offset;
       form = o .form;
@@ -82,7 +82,7 @@ written (two-value u f v) = Refused v
 written (offset-value u f o v) = Refused v
 written (nought u f) = Refused f
 written (offset-value-type u o v t) = Refused v
-written (order l t i v f o m) = Refused v
+written (order l t i v a f o m) = Refused v
 written (bytes n) = Count n
 
 written-back : (w : Written) → written (writtenVerdict w) ≡ w

@@ -18,7 +18,7 @@ use Rattle.modbus.specs.declared.Reading.the-variants.{Silent, AtOnce, A
 use Rattle.modbus.specs.declared.Reply.the-variants.{Exception, Value}
 use Rattle.modbus.specs.declared.shape.Fields.{Fields}
 use Rattle.modbus.specs.declared.rows.Asks.{Asks}
-use Rattle.modbus.specs.declared.rows.Asks.the-variants.{Always, ByMessage}
+use Rattle.modbus.specs.declared.rows.Asks.the-variants.{Alone, Always, ByMessage}
 use Rattle.modbus.specs.declared.rows.Found.{Found}
 use Rattle.modbus.specs.declared.rows.Found.the-variants.{First, Nothing}
 use Rattle.modbus.specs.declared.rows.Page.{Page}
@@ -35,11 +35,11 @@ row f r w p q m = record { 0 = f; 1 = r; 2 = w; 3 = p; 4 = q; 5 = m }
 -- function, registers read and written, offset page, question on the line, normal reply
 abbrev pub mappingRows : List Row
 mappingRows =
-    row 0x03 1 0 Any (Always ReadData) form.Value
-    ∷ row 0x04 1 0 Any (Always ReadData) form.Value
+    row 0x03 1 0 Any Alone form.Value
+    ∷ row 0x04 1 0 Any Alone form.Value
     ∷ row 0x06 0 1 Any (Always WriteData) form.OffsetValue
     ∷ row 0x10 0 1 Any (Always WriteData) form.OffsetOne
-    ∷ row 0x17 1 0 Any (Always ReadData) form.Value
+    ∷ row 0x17 1 0 Any Alone form.Value
     ∷ row 0x17 0 1 (At 0x00) (Always WriteData) form.Zero
     ∷ row 0x17 0 1 (At 0x02) (Always InvalidData) form.Never
     ∷ row 0x17 1 1 (At 0x00) (Always ReadData) form.Value
@@ -98,21 +98,28 @@ byMessage m =
     Unnamed))
 
 abbrev pub typeFrom : Asks → ℕ → Naming
+typeFrom Alone m = Known ReadData
 typeFrom (Always t) m = Known t
 typeFrom ByMessage m = byMessage m
+
+-- "codes 03 and 04 and code 17 with a read alone" (02, Ask 2): which rows ask this way stands in the table
+abbrev pub aloneBy : Asks → Bool
+aloneBy Alone = true
+aloneBy (Always t) = false
+aloneBy ByMessage = false
 
 -- "The id is the offset's low byte. Units 1 to 4 are the lines of the same number"
 abbrev pub asOrder : ℕ → Fields → Row → QuestionType → Order
 asOrder u a r t =
     record {
       line = u;
-      question = record { t = t; id = offsetBy r a % 256; value = a .value };
+      question = record { t = t; id = offsetBy r a % 256; value = a .value; alone = aloneBy (r .4) };
       function = a .function;
       offset = offsetBy r a;
       form = r .5;
     }
 
--- the question's word: its type, id and value, with even parity and spare bits 0
+-- the question's word: its type, id and value, with even parity and spare bits 0. (What goes out for a status question is for its line to say.)
 unfoldable pub wordOf : Question → ℕ
 wordOf q = evened (bare (typeNumber (q .t)) (q .id) (q .value))
 

@@ -2,6 +2,7 @@
 -- second and third column. Nothing is lost: two answers with one verdict are equal (proofs/Verdicts).
 -- Assumes nothing: these are definitions.
 use Prim.Native.Nat.{ℕ}
+use mathlib.Core.Bool.{Bool}
 use Rattle.modbus.specs.declared.Form.{Form}
 use Rattle.modbus.specs.declared.Reading.{Reading}
 use Rattle.modbus.specs.declared.Reading.the-variants.{Silent, AtOnce, Accepted}
@@ -24,8 +25,8 @@ pub data Verdict : Type 0 where
   nought : (unit function : ℕ) → Verdict
   -- 41: "offset, value, 00, type times 16"
   offset-value-type : (unit offset v type : ℕ) → Verdict
-  -- the question on the line, with its type's number; and what the reply will need
-  order : (line type id v function offset : ℕ) → Form → Verdict
+  -- the question on the line, with its type's number, and whether it is a read alone; and what the reply will need
+  order : (line type id v : ℕ) (alone : Bool) (function offset : ℕ) → Form → Verdict
   -- so many bytes in front of the room
   bytes : (count : ℕ) → Verdict
 
@@ -39,7 +40,8 @@ replyVerdict (Whole u o v t) = offset-value-type u o v t
 abbrev pub readingVerdict : Reading → Verdict
 readingVerdict (Silent n) = refused n
 readingVerdict (AtOnce r) = replyVerdict r
-readingVerdict (Accepted o) = order (o .line) (typeNumber (o .question .t)) (o .question .id) (o .question .value) (o .function) (o .offset) (o .form)
+readingVerdict (Accepted o) =
+    order (o .line) (typeNumber (o .question .t)) (o .question .id) (o .question .value) (o .question .alone) (o .function) (o .offset) (o .form)
 
 abbrev pub writtenVerdict : Written → Verdict
 writtenVerdict (Count n) = bytes n

@@ -15,6 +15,10 @@ use Rattle.modbus.specs.declared.Reply.the-variants.{Exception, Value, O
 abbrev pub exceptionOf : Order → ℕ → Reply
 exceptionOf o code = Exception (o .line) (o .function) code
 
+-- "exception 04 at once where no such frame went out" (02, Ask 2)
+abbrev pub lackingOf : Order → Reply
+lackingOf o = exceptionOf o 0x04
+
 -- "an order already waiting (06, units 1 to 4 only)"
 abbrev pub busyOf : Order → Reply
 busyOf o = exceptionOf o 0x06

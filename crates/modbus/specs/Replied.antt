@@ -22,8 +22,10 @@ use Rattle.modbus.specs.Table.{
   Request,
 }
 
--- what follows where another order waits; and a boiler frame of type 4, of 5, of 6, of 7, and no answer: a body each
+-- what follows where there is no status to send (02, Ask 2), and where another order waits; and a boiler frame of type 4, of 5, of 6, of 7, and
+-- no answer: a body each
 pub record ReplyBodies : Type 0 where
+  pub lacking : List ℕ
   pub busy : List ℕ
   pub four : List ℕ
   pub five : List ℕ
@@ -35,9 +37,9 @@ pub record ReplyBodies : Type 0 where
 abbrev pub code : ℕ → ℕ → ℕ → List ℕ
 code u f c = u ∷ (f + 0x80) ∷ c ∷ []
 
--- "an order already waiting (06 ..)"; "Outcomes: type 7 is exception 02, type 6 is 04, no answer is 0B."
+-- "exception 04 at once" (02, Ask 2); "an order already waiting (06 ..)"; "Outcomes: type 7 is exception 02, type 6 is 04, no answer is 0B."
 abbrev pub usual : ℕ → ℕ → List ℕ → ReplyBodies
-usual u f normal = record { busy = code u f 0x06; four = normal; five = normal; six = code u f 0x04; seven = code u f 0x02; none = code u f 0x0B }
+usual u f normal = record { lacking = code u f 0x04; busy = code u f 0x06; four = normal; five = normal; six = code u f 0x04; seven = code u f 0x02; none = code u f 0x0B }
 
 -- "none: always an exception" (types 4 and 5 don't match an INVALID-DATA)
 abbrev pub always : ℕ → ℕ → ReplyBodies
@@ -45,12 +47,13 @@ always u f = usual u f (code u f 0x04)
 
 -- "Type 6 is a normal reply in the last 17 row"
 abbrev pub six-too : ℕ → ℕ → List ℕ → ReplyBodies
-six-too u f normal = record { busy = code u f 0x06; four = normal; five = normal; six = normal; seven = code u f 0x02; none = code u f 0x0B }
+six-too u f normal = record { lacking = code u f 0x04; busy = code u f 0x06; four = normal; five = normal; six = normal; seven = code u f 0x02; none = code u f 0x0B }
 
 -- "41 gives types 4 to 7 as normal replies and only no answer as 0B": "offset, value, 00, type times 16"
 abbrev pub whole : ℕ → ℕ → ℕ → ReplyBodies
 whole u o v =
     record {
+      lacking = code u 0x41 0x04;
       busy = code u 0x41 0x06;
       four = u ∷ 0x41 ∷ pair o (pair v (0x00 ∷ 0x40 ∷ []));
       five = u ∷ 0x41 ∷ pair o (pair v (0x00 ∷ 0x50 ∷ []));

@@ -2,6 +2,7 @@
 -- line (its replies: Replied). No reader of messages is known here: what the box reads is held to this (proofs/Sent).
 -- Assumes nothing: these are definitions.
 use Prim.Native.Nat.{ℕ, _%_, _≤_, _<_}
+use mathlib.Core.Bool.{true, false}
 use mathlib.Core.List.{List, [], _∷_}
 use Rattle.places.specs.Bytes.{pair}
 use Rattle.modbus.specs.declared.Form.the-variants as form
@@ -97,22 +98,26 @@ bodyOfRequest q = bodyIn (q .row) (q .unit) (q .offset) (q .value) (q .other)
 
 -- ---- its question
 
--- line, type, id, value, and for the reply function, offset and form: "The id is the offset's low byte"; types 0 READ-DATA, 1 WRITE-DATA,
--- 2 INVALID-DATA
+-- "READ-DATA, value 0", which takes the master's own status with it for ids 0 and 70: "codes 03 and 04 and code 17 with a read alone" (02, Ask 2)
+abbrev pub read-alone : ℕ → ℕ → ℕ → Verdict
+read-alone u f o = order u 0 (o % 256) 0x0000 true f o form.Value
+
+-- line, type, id, value, no read alone, and for the reply function, offset and form: "The id is the offset's low byte"; types 0 READ-DATA,
+-- 1 WRITE-DATA, 2 INVALID-DATA. "Code 41 and 17 with a value stay" (02, Ask 2)
 abbrev pub askedIn : TableRow → ℕ → ℕ → ℕ → Verdict
-askedIn row-03 u o v = order u 0 (o % 256) 0x0000 0x03 o form.Value
-askedIn row-04 u o v = order u 0 (o % 256) 0x0000 0x04 o form.Value
-askedIn row-06 u o v = order u 1 (o % 256) v 0x06 o form.OffsetValue
-askedIn row-10 u o v = order u 1 (o % 256) v 0x10 o form.OffsetOne
-askedIn row-17-read u o v = order u 0 (o % 256) 0x0000 0x17 o form.Value
-askedIn row-17-write-00 u o v = order u 1 (o % 256) v 0x17 o form.Zero
-askedIn row-17-write-02 u o v = order u 2 (o % 256) v 0x17 o form.Never
-askedIn row-17-both-00 u o v = order u 0 (o % 256) v 0x17 o form.Value
-askedIn row-17-both-01 u o v = order u 1 (o % 256) v 0x17 o form.Value
-askedIn row-17-both-02 u o v = order u 2 (o % 256) v 0x17 o form.ValueOfInvalid
-askedIn row-41-0000 u o v = order u 0 (o % 256) v 0x41 o form.Whole
-askedIn row-41-0010 u o v = order u 1 (o % 256) v 0x41 o form.Whole
-askedIn row-41-0020 u o v = order u 2 (o % 256) v 0x41 o form.Whole
+askedIn row-03 u o v = read-alone u 0x03 o
+askedIn row-04 u o v = read-alone u 0x04 o
+askedIn row-06 u o v = order u 1 (o % 256) v false 0x06 o form.OffsetValue
+askedIn row-10 u o v = order u 1 (o % 256) v false 0x10 o form.OffsetOne
+askedIn row-17-read u o v = read-alone u 0x17 o
+askedIn row-17-write-00 u o v = order u 1 (o % 256) v false 0x17 o form.Zero
+askedIn row-17-write-02 u o v = order u 2 (o % 256) v false 0x17 o form.Never
+askedIn row-17-both-00 u o v = order u 0 (o % 256) v false 0x17 o form.Value
+askedIn row-17-both-01 u o v = order u 1 (o % 256) v false 0x17 o form.Value
+askedIn row-17-both-02 u o v = order u 2 (o % 256) v false 0x17 o form.ValueOfInvalid
+askedIn row-41-0000 u o v = order u 0 (o % 256) v false 0x41 o form.Whole
+askedIn row-41-0010 u o v = order u 1 (o % 256) v false 0x41 o form.Whole
+askedIn row-41-0020 u o v = order u 2 (o % 256) v false 0x41 o form.Whole
 
 abbrev pub askedBy : Request → Verdict
 askedBy q = askedIn (q .row) (q .unit) (q .offset) (q .value)

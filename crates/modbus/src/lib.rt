@@ -10,11 +10,13 @@ pub enum QuestionType {
     InvalidData,
 }
 
-// What an order asks of its line's boiler.
+// What an order asks of its line's boiler; and whether it is a read alone, which takes the master's own status with it for ids 0 and 70 (02,
+// Ask 2).
 pub struct Question {
     pub t: QuestionType,
     pub id: u8,
     pub value: u16,
+    pub alone: bool,
 }
 
 // How the normal reply goes on after unit and function.
@@ -69,7 +71,8 @@ pub enum Reading {
     Silent(u8),
     // An exception, or unit 5's reply.
     AtOnce(Reply),
-    // Whether another order already waits is for the box to say: `busyOf` (specs/Outcomes.antt) is the reply then.
+    // Whether there is a status to send, and whether another order already waits, is for the box to say: `lackingOf` and `busyOf`
+    // (specs/Outcomes.antt) are the replies then.
     Accepted(Order),
 }
 

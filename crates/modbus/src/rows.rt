@@ -8,13 +8,17 @@ pub enum Page {
     At(u8),
 }
 
-// Where the question's type comes from.
+// The question on the line.
 pub enum Asks {
+    // READ-DATA, value 0: a read alone. For ids 0 and 70 with the master's own status (02, Ask 2).
+    Alone,
+    // This type, with the request's value.
     Always(QuestionType),
+    // The type that the message field names, with the request's value.
     ByMessage,
 }
 
-// Function, registers read and written, offset page, question type, reply form: eight bytes.
+// Function, registers read and written, offset page, question, reply form: eight bytes.
 pub struct Row(pub u8, pub u8, pub u8, pub Page, pub Asks, pub Form);
 
 pub enum Found {

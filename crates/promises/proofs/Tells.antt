@@ -4,7 +4,7 @@
 use Prim.Native.Nat.{ℕ}
 use mathlib.Core.Path.{_≡_, refl, sym, ap, _∙_, subst⁻¹}
 use mathlib.Core.Logic.{_⊎_, inl, inr}
-use mathlib.Core.Bool.{Bool, true, false}
+use mathlib.Core.Bool.{Bool, true, false, cond}
 use mathlib.Core.List.{List, []}
 use lib.Dec.{leb}
 use lib.ListN.{length}
@@ -14,6 +14,7 @@ use Rattle.word.specs.declared.Frame.{Frame}
 use Rattle.turns.specs.declared.Talker.{Talker}
 use Rattle.turns.specs.Events as line
 use Rattle.modbus.specs.declared.Order.{Order}
+use Rattle.modbus.specs.Outcomes.{exceptionOf, lackingOf}
 use Rattle.modbus.specs.declared.Reading.{Reading}
 use Rattle.modbus.specs.declared.Reading.the-variants as reading
 use Rattle.modbus.specs.Wire.{least-room}
@@ -22,7 +23,7 @@ use Rattle.promises.specs.declared.Asked.{Asked}
 use Rattle.promises.specs.declared.Asked.the-variants.{Nothing, Waits}
 use Rattle.promises.specs.Box.{Gateway, Moved}
 use Rattle.promises.specs.Notes.{BoxNote, quiet, held, passed, dropped, accepted, reply, outcome, refused, boxNoteOf, bytesIn}
-use Rattle.promises.specs.Entries.{Does, messageOf, readOf, askedOf, asksOf, takenOf, replied}
+use Rattle.promises.specs.Entries.{Does, messageOf, readOf, askedOf, lackOf, asksOf, takenOf, replied}
 use Rattle.promises.specs.Inputs.{Input, tick, thermostat, boiler, message, Inputs, Gift, Ticks}
 use Rattle.promises.specs.History.{next, nowhere, giftOf, boxAt, given}
 use Rattle.promises.specs.Tells.{May, refuses, tick-quiet, tick-ends, thermostat-held, boiler-passed, boiler-dropped, boiler-ends}
@@ -61,18 +62,28 @@ module _ {W : Wrapping} (law : Lawful W) (h : Inputs) (k : ℕ) where
   abbrev Replying : Does Moved → Type 0
   Replying d = Replies (gift (boxNoteOf (d .result .told)) (d .wrote) nowhere) (d .result .gateway)
 
+  excepted : (o : Order) (code : ℕ) → Replying (replied W g (exceptionOf o code))
+  unfolding replied
+  excepted o code =
+      record { bytes = record { reply = _; given = exception (o .line) (o .function) code; writes = refl }; state = refl; out = λ l. refl }
+
   asked-replies : (c : ℕ) (o : Order) (a : Asked) → boxNoteOf (askedOf W g a o .result .told) ≡ reply c →
       Replying (askedOf W g a o)
   unfolding takenOf replied
   asked-replies c o Nothing e = clash cc
-  asked-replies c o (Waits p) e = record { bytes = record { reply = _; given = exception (o .line) (o .function) 0x06; writes = refl }; state = refl; out = λ l. refl }
+  asked-replies c o (Waits p) e = excepted o 0x06
 
   read-replies : (c : ℕ) (b : List ℕ) (r : Reading) → W .reads b ≡ r → boxNoteOf (readOf W g r .result .told) ≡ reply c →
       Replying (readOf W g r)
   unfolding readOf replied asksOf
   read-replies c b (reading.Silent n) q e = clash cc
   read-replies c b (reading.AtOnce r) q e = record { bytes = record { reply = r; given = law .at-once b r q; writes = refl }; state = refl; out = λ l. refl }
-  read-replies c b (reading.Accepted o) q e = asked-replies c o (g .asked) e
+  read-replies c b (reading.Accepted o) q e = go (lackOf (g .lines) o) e
+    where
+      go : (l : Bool) → boxNoteOf (cond l (replied W g (lackingOf o)) (askedOf W g (g .asked) o) .result .told) ≡ reply c →
+          Replying (cond l (replied W g (lackingOf o)) (askedOf W g (g .asked) o))
+      go true e = excepted o 0x04
+      go false e = asked-replies c o (g .asked) e
 
   message-replies : (c : ℕ) (b : List ℕ) (room : ℕ) (a : Bool) → leb least-room room ≡ a → giftOf W g (message b room) .told ≡ reply c →
       Replying (messageOf W g b room)

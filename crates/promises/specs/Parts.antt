@@ -18,9 +18,9 @@ pub data Part : Type 0 where
   goes : Talker → Frame → Part
   -- of a frame
   tells : Told → Part
-  -- of an order: it is accepted, another one is under way, or it has its outcome and its wait
+  -- of an order: it is accepted, it gets an exception at once, or it has its outcome and its wait
   takes : Part
-  busy : Part
+  excepts : Part
   ends : Outcome → ℕ → Part
 
 -- what the boiler's frame says
@@ -35,7 +35,7 @@ partIn (line.passed f) = tells (Passed f)
 partIn line.dropped = tells Dropped
 partIn (line.refused n) = tells (Refused n)
 partIn line.accepted = takes
-partIn (line.exception n) = busy
+partIn (line.exception n) = excepts
 partIn (line.answer f n) = ends (outcomeOf f) n
 partIn (line.no-answer n) = ends NoAnswer n
 
@@ -45,7 +45,7 @@ outIn nothing = Silent
 outIn (goes t f) = Sent t f
 outIn (tells t) = Silent
 outIn takes = Silent
-outIn busy = Silent
+outIn excepts = Silent
 outIn (ends w n) = Silent
 
 -- what is told of a frame
@@ -54,5 +54,5 @@ toldIn nothing = Quiet
 toldIn (goes t f) = Quiet
 toldIn (tells t) = t
 toldIn takes = Quiet
-toldIn busy = Quiet
+toldIn excepts = Quiet
 toldIn (ends w n) = Quiet

@@ -3,15 +3,15 @@
 use mathlib.Core.Path.{sym, _∙_}
 use denote.Ref.{now}
 use Rattle.word.proofs.One.{One, OneRoom}
-use Rattle.replies.proofs.busy.Reads as busy-reads
-use Rattle.replies.proofs.busy.Kinds as busy-kinds
+use Rattle.replies.proofs.exception.Reads as exception-reads
+use Rattle.replies.proofs.exception.Kinds as exception-kinds
 use Rattle.replies.proofs.answer.Reads as answer-reads
 use Rattle.replies.proofs.answer.Kinds as answer-kinds
 use Rattle.replies.proofs.write.Reads as write-reads
 use Rattle.replies.proofs.write.Kinds as write-kinds
 
-pub busy-one : One busy-kinds.ps busy-kinds.r busy-reads.Post
-busy-one κs a u v x y p q = p ∙ sym q
+pub exception-one : One exception-kinds.ps exception-kinds.r exception-reads.Post
+exception-one κs a u v x y p q = p ∙ sym q
 
 pub answer-one : One answer-kinds.ps answer-kinds.r answer-reads.Post
 answer-one κs a u v x y p q = p ∙ sym q

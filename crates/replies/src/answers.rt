@@ -1,15 +1,10 @@
 // The reply to an order, by its form and what the boiler's frame says.
+use crate::exception;
 use modbus::Form;
 use modbus::Order;
 use modbus::Reply;
 ghost use mathlib.Core.Path.{_≡_};
 ghost use Rattle.modbus.specs.Outcomes.{exceptionOf, codeOf, ordinaryOf, ofInvalid, normalOf};
-
-pub(crate) fn exception(o: Order, code: u8) -> Reply
-    ensures { λ r. ⌜ r ≡ exceptionOf o code ⌝ }
-{
-    Reply::Exception(o.line, o.function, code)
-}
 
 // The exception of an UNKNOWN-DATAID, else of a DATA-INVALID.
 fn refused(o: Order, t: u8) -> Reply

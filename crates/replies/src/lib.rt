@@ -1,8 +1,7 @@
-// Modbus replies: what an order's outcome becomes, and a reply written into a lent room.
+// Modbus replies: an exception, what an order's outcome becomes, and a reply written into a lent room.
 mod answers;
 mod body;
 
-use crate::answers::exception;
 use crate::answers::normal;
 use crate::body::high;
 use crate::body::low;
@@ -12,14 +11,14 @@ use modbus::Outcome;
 use modbus::Reply;
 use modbus::Written;
 ghost use mathlib.Core.Path.{_≡_};
-ghost use Rattle.modbus.specs.Outcomes.{answerOf, busyOf};
+ghost use Rattle.modbus.specs.Outcomes.{exceptionOf, answerOf};
 ghost use Rattle.modbus.specs.Wire.{replyWritten, replyRoom};
 
-// The reply where an order already waits.
-pub fn busy(o: Order) -> Reply
-    ensures { λ r. ⌜ r ≡ busyOf o ⌝ }
+// An exception to an order: at once, or as its outcome.
+pub fn exception(o: Order, code: u8) -> Reply
+    ensures { λ r. ⌜ r ≡ exceptionOf o code ⌝ }
 {
-    exception(o, 0x06)
+    Reply::Exception(o.line, o.function, code)
 }
 
 // The reply to an order, from what it came to.

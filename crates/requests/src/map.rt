@@ -16,7 +16,7 @@ use modbus::rows::Row;
 use modbus::shape::Fields;
 use places::byte_at;
 ghost use mathlib.Core.Path.{_≡_};
-ghost use Rattle.modbus.specs.Mapping.{byMessage, typeFrom, unlikeOf, atOnce, asOrder, askOf, ownOf, mappedOf, bodyRead};
+ghost use Rattle.modbus.specs.Mapping.{byMessage, typeFrom, aloneBy, unlikeOf, atOnce, asOrder, askOf, ownOf, mappedOf, bodyRead};
 
 fn by_message(m: u16) -> Naming
     ensures { λ r. ⌜ r ≡ byMessage m ⌝ }
@@ -37,8 +37,20 @@ fn type_from(asks: Asks, m: u16) -> Naming
     ensures { λ r. ⌜ r ≡ typeFrom asks m ⌝ }
 {
     match asks {
+        Asks::Alone => Naming::Known(QuestionType::ReadData),
         Asks::Always(t) => Naming::Known(t),
         Asks::ByMessage => by_message(m),
+    }
+}
+
+// Whether the row asks as a read alone.
+fn alone(asks: Asks) -> bool
+    ensures { λ r. ⌜ r ≡ aloneBy asks ⌝ }
+{
+    match asks {
+        Asks::Alone => true,
+        Asks::Always(_) => false,
+        Asks::ByMessage => false,
     }
 }
 
@@ -46,11 +58,13 @@ fn order(unit: u8, a: Fields, r: Row, t: QuestionType) -> Order
     ensures { λ o. ⌜ o ≡ asOrder unit a r t ⌝ }
 {
     let at = offset(r, a);
+    let asks = r.4;
     let form = r.5;
     let question = Question {
         t,
         id: (at % 256) as u8,
         value: a.value,
+        alone: alone(asks),
     };
     Order {
         line: unit,

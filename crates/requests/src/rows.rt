@@ -9,6 +9,7 @@ use modbus::Form::Zero;
 use modbus::QuestionType::InvalidData;
 use modbus::QuestionType::ReadData;
 use modbus::QuestionType::WriteData;
+use modbus::rows::Asks::Alone;
 use modbus::rows::Asks::Always;
 use modbus::rows::Asks::ByMessage;
 use modbus::rows::Found;
@@ -21,11 +22,11 @@ ghost use mathlib.Core.Path.{_≡_};
 ghost use Rattle.modbus.specs.Mapping.{mappingRows, offsetBy, fitsOf, onOf, firstOf};
 
 const ROWS: [Row; 11] = [
-    Row(0x03, 1, 0, Any, Always(ReadData), Value),
-    Row(0x04, 1, 0, Any, Always(ReadData), Value),
+    Row(0x03, 1, 0, Any, Alone, Value),
+    Row(0x04, 1, 0, Any, Alone, Value),
     Row(0x06, 0, 1, Any, Always(WriteData), OffsetValue),
     Row(0x10, 0, 1, Any, Always(WriteData), OffsetOne),
-    Row(0x17, 1, 0, Any, Always(ReadData), Value),
+    Row(0x17, 1, 0, Any, Alone, Value),
     Row(0x17, 0, 1, At(0x00), Always(WriteData), Zero),
     Row(0x17, 0, 1, At(0x02), Always(InvalidData), Never),
     Row(0x17, 1, 1, At(0x00), Always(ReadData), Value),

@@ -21,7 +21,7 @@ use Rattle.turns.proofs.Clock.{clock-suc, last-or}
 use Rattle.turns.proofs.Turned.{H}
 use Rattle.turns.proofs.Waiting.{stirs}
 use Rattle.turns.proofs.Happens.{Happens, passing, resting, nobody, relay-sent, order-sent, talking, relay-silent, order-silent}
-use Rattle.turns.proofs.Happens.{relay-held, relay-refused, order-answered, relay-answered, relay-lost, boiler-refused, order-taken, order-busy}
+use Rattle.turns.proofs.Happens.{relay-held, relay-refused, order-answered, relay-answered, relay-lost, boiler-refused, order-lacking, order-taken, order-busy}
 
 module _ (h : Events) (s : Notes) where
   -- a count t of the ticks from event i to before event n
@@ -206,5 +206,6 @@ module _ (h : Events) (s : Notes) where
   kept-next n (relay-answered l q a u f ma lo hi eh le) e es o = record { kept = held-on n l (ap beat e) (ap stirs es) (o .kept); out = tt }
   kept-next n (relay-lost l q a u f ma lo hi lost) e es o = record { kept = held-on n l (ap beat e) (ap stirs es) (o .kept); out = tt }
   kept-next n (boiler-refused l f r un) e es o = stays n 0 l (ap stirs es) (λ z. omega arith) (λ z. omega arith) (ap beat e) o
-  kept-next n (order-taken l w free) e es o = stays n 3 l (ap stirs es) (λ z. omega arith) (λ z. omega arith) (ap beat e) o
-  kept-next n (order-busy l w under) e es o = stays n 0 l (ap stirs es) (λ z. omega arith) (λ z. omega arith) (ap beat e) o
+  kept-next n (order-lacking l w lack) e es o = stays n 0 l (ap stirs es) (λ z. omega arith) (λ z. omega arith) (ap beat e) o
+  kept-next n (order-taken l w has free) e es o = stays n 3 l (ap stirs es) (λ z. omega arith) (λ z. omega arith) (ap beat e) o
+  kept-next n (order-busy l w has under) e es o = stays n 0 l (ap stirs es) (λ z. omega arith) (λ z. omega arith) (ap beat e) o

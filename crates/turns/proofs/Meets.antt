@@ -26,7 +26,7 @@ use Rattle.turns.proofs.Moves.{Deaf, boils}
 use Rattle.turns.proofs.Clock.{clock-suc, clock-mono, side}
 use Rattle.turns.proofs.Happens.{Unanswered, Happens, passing, resting, nobody, relay-sent, order-sent, talking, relay-silent, happens}
 use Rattle.turns.proofs.Happens.{order-silent, relay-held, relay-refused, order-answered, relay-answered, relay-lost, boiler-refused}
-use Rattle.turns.proofs.Happens.{order-taken, order-busy}
+use Rattle.turns.proofs.Happens.{order-lacking, order-taken, order-busy}
 use Rattle.turns.proofs.Refusals.{of-boiler, word-boiler, at-rest, too-early, too-late, no-match}
 use Rattle.turns.proofs.Turned.{same-or, Past, TalkAt, TurnAt}
 use Rattle.turns.proofs.Standing.{H, Known, known, latest-once}
@@ -150,8 +150,9 @@ module _ (h : Events) where
     meets (relay-answered l q a u c ma lo hi eh le) e o = let is : boiler c ≡ boiler b = sym e ∙ an .answers .frame in inl (let same : c ≡ b = cc in ap passed same)
     meets (relay-lost l q a u c ma lo hi lost) e o = inr refl
     meets (boiler-refused l c n un) e o = absurd (unheard (l .turn) (l .last) c e (o .turn) un)
-    meets (order-taken l w free) e o = let z = ap boils (sym e ∙ an .answers .frame) in absurd (omega arith)
-    meets (order-busy l w under) e o = let z = ap boils (sym e ∙ an .answers .frame) in absurd (omega arith)
+    meets (order-lacking l w lack) e o = let z = ap boils (sym e ∙ an .answers .frame) in absurd (omega arith)
+    meets (order-taken l w has free) e o = let z = ap boils (sym e ∙ an .answers .frame) in absurd (omega arith)
+    meets (order-busy l w has under) e o = let z = ap boils (sym e ∙ an .answers .frame) in absurd (omega arith)
 
     pub met : (notes h k ≡ passed b) ⊎ (notes h k ≡ dropped)
     unfolding saidAt

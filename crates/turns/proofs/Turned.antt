@@ -21,7 +21,7 @@ use Rattle.turns.proofs.Clock.{clock-suc, last-or, side}
 use Rattle.turns.proofs.Pending.{Pending, begins, goes-on, answers}
 use Rattle.turns.proofs.Happens.{own, Unanswered, no-answer-to, Happens, passing, resting, relay-sent, order-sent, talking, relay-silent}
 use Rattle.turns.proofs.Happens.{order-silent, relay-held, relay-refused, order-answered, relay-answered, relay-lost, boiler-refused}
-use Rattle.turns.proofs.Happens.{order-taken, order-busy}
+use Rattle.turns.proofs.Happens.{order-lacking, order-taken, order-busy}
 use Rattle.turns.proofs.Happens as happens
 
 -- whether a frame goes out
@@ -181,7 +181,7 @@ module _ (h : Events) (s : Notes) where
       let eb : beat (h n) ≡ 1 = ap beat e in
       rest-on n r 100 (l .last) (mute n (ap speaks es)) (omega (arith, o .count)) o
   turn-next n (relay-sent l r f t ge eh first) e es o = goes n r (l .last) Thermostat f es o
-  turn-next n (order-sent l r w u ge eo first) e es o = goes n r (l .last) Modbus (own w) es o
+  turn-next n (order-sent l r w u ge eo first) e es o = goes n r (l .last) Modbus (own (l .status) w) es o
   turn-next n (talking l x q a u lt) e es o =
       let eb : beat (h n) ≡ 1 = ap beat e in
       talk-on n x q a (older a) (mute n (ap speaks es)) (λ z. omega arith) (λ z. omega arith) (rw e (deaf tick refl q a)) o
@@ -196,5 +196,6 @@ module _ (h : Events) (s : Notes) where
   turn-next n (relay-lost l q a u f ma lo hi lost) e es o =
       answered n Thermostat q a f (mute n (ap speaks es)) (λ z. answers h (z .j) q n a f e ma lo hi (z .out)) o
   turn-next n (boiler-refused l f r un) e es o = still n l (boiler f) e (mute n (ap speaks es)) refl un o
-  turn-next n (order-taken l w free) e es o = still n l (order w) e (mute n (ap speaks es)) refl (no-answer-to (order w) (l .turn) refl) o
-  turn-next n (order-busy l w under) e es o = still n l (order w) e (mute n (ap speaks es)) refl (no-answer-to (order w) (l .turn) refl) o
+  turn-next n (order-lacking l w lack) e es o = still n l (order w) e (mute n (ap speaks es)) refl (no-answer-to (order w) (l .turn) refl) o
+  turn-next n (order-taken l w has free) e es o = still n l (order w) e (mute n (ap speaks es)) refl (no-answer-to (order w) (l .turn) refl) o
+  turn-next n (order-busy l w has under) e es o = still n l (order w) e (mute n (ap speaks es)) refl (no-answer-to (order w) (l .turn) refl) o

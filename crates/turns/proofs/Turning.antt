@@ -26,7 +26,7 @@ use Rattle.turns.specs.Talks.{Rested, Turns}
 use Rattle.turns.proofs.Clock.{clock-suc}
 use Rattle.turns.proofs.Happens.{own, RelayFirst, OrderFirst, Happens, passing, resting, relay-sent, order-sent, talking, relay-silent, happens}
 use Rattle.turns.proofs.Happens.{order-silent, relay-held, relay-refused, order-answered, relay-answered, relay-lost, boiler-refused}
-use Rattle.turns.proofs.Happens.{order-taken, order-busy}
+use Rattle.turns.proofs.Happens.{order-lacking, order-taken, order-busy}
 use Rattle.turns.proofs.Happens as cases
 use Rattle.turns.proofs.Turned.{speaks, RestAt}
 use Rattle.turns.proofs.Waiting.{Waiting, WaitingAt}
@@ -103,8 +103,9 @@ module _ (h : Events) where
   spoken n (relay-answered l q a u b ma lo hi eh le) e o x f on = let z = ap speaks on in absurd (omega arith)
   spoken n (relay-lost l q a u b ma lo hi lost) e o x f on = let z = ap speaks on in absurd (omega arith)
   spoken n (boiler-refused l b m un) e o x f on = let z = ap speaks on in absurd (omega arith)
-  spoken n (order-taken l w free) e o x f on = let z = ap speaks on in absurd (omega arith)
-  spoken n (order-busy l w under) e o x f on = let z = ap speaks on in absurd (omega arith)
+  spoken n (order-lacking l w lack) e o x f on = let z = ap speaks on in absurd (omega arith)
+  spoken n (order-taken l w has free) e o x f on = let z = ap speaks on in absurd (omega arith)
+  spoken n (order-busy l w has under) e o x f on = let z = ap speaks on in absurd (omega arith)
 
   -- ---- and that something does
 
@@ -126,7 +127,7 @@ module _ (h : Events) where
   starting n (resting l r lt) e o x full on = absurd (short n r (l .last) lt (o .turn) full)
   starting n (cases.nobody l r ge eh eo) e o x full on = absurd (unwaited n l x eh eo (o .waiting) on)
   starting n (relay-sent l r g t ge eh first) e o x full on = (Thermostat, g, refl)
-  starting n (order-sent l r w u ge eo first) e o x full on = (Modbus, own w, refl)
+  starting n (order-sent l r w u ge eo first) e o x full on = (Modbus, own (l .status) w, refl)
   starting n (talking l y q a u lt) e o x full on = absurd (talks-on h n y q a (o .turn) (full .since))
   starting n (relay-silent l q a u ge) e o x full on = absurd (talks-on h n Thermostat q a (o .turn) (full .since))
   starting n (order-silent l q a u ge) e o x full on = absurd (talks-on h n Modbus q a (o .turn) (full .since))
@@ -136,8 +137,9 @@ module _ (h : Events) where
   starting n (relay-answered l q a u b ma lo hi eh le) e o x full on = let z = ap beat (sym e ∙ full .ticks) in absurd (omega arith)
   starting n (relay-lost l q a u b ma lo hi lost) e o x full on = let z = ap beat (sym e ∙ full .ticks) in absurd (omega arith)
   starting n (boiler-refused l b m un) e o x full on = let z = ap beat (sym e ∙ full .ticks) in absurd (omega arith)
-  starting n (order-taken l w free) e o x full on = let z = ap beat (sym e ∙ full .ticks) in absurd (omega arith)
-  starting n (order-busy l w under) e o x full on = let z = ap beat (sym e ∙ full .ticks) in absurd (omega arith)
+  starting n (order-lacking l w lack) e o x full on = let z = ap beat (sym e ∙ full .ticks) in absurd (omega arith)
+  starting n (order-taken l w has free) e o x full on = let z = ap beat (sym e ∙ full .ticks) in absurd (omega arith)
+  starting n (order-busy l w has under) e o x full on = let z = ap beat (sym e ∙ full .ticks) in absurd (omega arith)
 
   pub turns : Turns (H h)
   unfolding lineAt saidAt

@@ -18,6 +18,7 @@ use Rattle.turns.specs.declared.Slot.{Slot}
 use Rattle.turns.specs.declared.Slot.the-variants.{Empty, Full}
 use Rattle.turns.specs.declared.Queue.{Queue}
 use Rattle.turns.specs.declared.Queue.the-variants.{Nothing, Waits}
+use Rattle.turns.specs.declared.Status.{Status}
 use Rattle.turns.specs.Turns.{older, heldOlder, orderOlder, lineOlder, endedOf, noneHeld, waits, underWay}
 use Rattle.turns.specs.Events.{Event, order, Events, Notes}
 use Rattle.turns.specs.Events.{Note, nothing, held, sent, passed, dropped, accepted, exception, answer, no-answer, refused, noteOf}
@@ -26,7 +27,7 @@ use Rattle.turns.specs.Scene as scene
 use Rattle.turns.proofs.Clock.{last-or}
 use Rattle.turns.proofs.Turned.{H}
 use Rattle.turns.proofs.Happens.{own, Happens, passing, resting, nobody, relay-sent, order-sent, talking, relay-silent, order-silent}
-use Rattle.turns.proofs.Happens.{relay-held, relay-refused, order-answered, relay-answered, relay-lost, boiler-refused, order-taken, order-busy}
+use Rattle.turns.proofs.Happens.{relay-held, relay-refused, order-answered, relay-answered, relay-lost, boiler-refused, order-lacking, order-taken, order-busy}
 
 -- what a note says of who waits: something of a talker comes, or goes out, or neither
 abbrev pub stirs : Note → ℕ
@@ -63,12 +64,12 @@ alone-older Thermostat q a u b v o al = tt
 alone-older Modbus q a u b v Nothing al = tt
 alone-older Modbus q a u b v (Waits w t) al = absurd al
 
-alone-taken : (t : Turn) (x : Slot) (o : Queue) (y : Talker) (w : Query) → underWay (line t x o y) ≡ false → Alone t (Waits w 0)
+alone-taken : (t : Turn) (x : Slot) (o : Queue) (y : Talker) (m : Status) (w : Query) → underWay (line t x o y m) ≡ false → Alone t (Waits w 0)
 unfolding underWay
-alone-taken (Rest r) x o y w free = tt
-alone-taken (Talk Thermostat q a u) x o y w free = tt
-alone-taken (Talk Modbus q a u) x Nothing y w free = clash cc
-alone-taken (Talk Modbus q a u) x (Waits v t) y w free = clash cc
+alone-taken (Rest r) x o y m w free = tt
+alone-taken (Talk Thermostat q a u) x o y m w free = tt
+alone-taken (Talk Modbus q a u) x Nothing y m w free = clash cc
+alone-taken (Talk Modbus q a u) x (Waits v t) y m w free = clash cc
 
 pub alone-next : {l : Line} {e : Event} {S : Step} → Happens l e S → Alone (l .turn) (l .order) → Alone (S .line .turn) (S .line .order)
 unfolding lineOlder endedOf
@@ -86,8 +87,9 @@ alone-next (order-answered l q a u f ma lo hi) al = tt
 alone-next (relay-answered l q a u f ma lo hi eh le) al = tt
 alone-next (relay-lost l q a u f ma lo hi lost) al = tt
 alone-next (boiler-refused l f n un) al = al
-alone-next (order-taken l w free) al = alone-taken (l .turn) (l .held) (l .order) (l .last) w free
-alone-next (order-busy l w under) al = al
+alone-next (order-lacking l w lack) al = al
+alone-next (order-taken l w has free) al = alone-taken (l .turn) (l .held) (l .order) (l .last) (l .status) w free
+alone-next (order-busy l w has under) al = al
 
 module _ (h : Events) (s : Notes) where
   abbrev pub Waiting : ℕ → Talker → Bool → Type 0
@@ -177,7 +179,7 @@ module _ (h : Events) (s : Notes) where
   }
   waiting-next n (order-sent l r w u ge eo first) e es al o = record {
     relay = older-held (suc n) (l .held) (keeps n Thermostat 4 (not (noneHeld (l .held))) (ap stirs es) (λ z. omega arith) (λ z. omega arith) (o .relay));
-    asks = goes n Modbus (own w) es (λ z. let four = ap stirs es in omega arith);
+    asks = goes n Modbus (own (l .status) w) es (λ z. let four = ap stirs es in omega arith);
   }
   waiting-next n (talking l x q a u lt) e es al o = ages n (l .held) (l .order) (ap stirs es) o
   waiting-next n (relay-silent l q a u ge) e es al o = ages n (l .held) (l .order) (ap stirs es) o
@@ -192,8 +194,9 @@ module _ (h : Events) (s : Notes) where
   waiting-next n (relay-answered l q a u f ma lo hi eh le) e es al o = stay n (l .held) (l .order) (ap stirs es) o
   waiting-next n (relay-lost l q a u f ma lo hi lost) e es al o = stay n (l .held) (l .order) (ap stirs es) o
   waiting-next n (boiler-refused l f r un) e es al o = stay n (l .held) (l .order) (ap stirs es) o
-  waiting-next n (order-taken l w free) e es al o = record {
+  waiting-next n (order-lacking l w lack) e es al o = stay n (l .held) (l .order) (ap stirs es) o
+  waiting-next n (order-taken l w has free) e es al o = record {
     relay = keeps n Thermostat 3 (not (noneHeld (l .held))) (ap stirs es) (λ z. omega arith) (λ z. omega arith) (o .relay);
     asks = comes n Modbus (record { w = w; asked = e; taken = es });
   }
-  waiting-next n (order-busy l w under) e es al o = stay n (l .held) (l .order) (ap stirs es) o
+  waiting-next n (order-busy l w has under) e es al o = stay n (l .held) (l .order) (ap stirs es) o

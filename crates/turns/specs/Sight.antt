@@ -7,23 +7,22 @@ use Rattle.turns.specs.declared.Query.{Query}
 use Rattle.turns.specs.declared.Talker.the-variants.{Modbus}
 use Rattle.turns.specs.Events.{tick, thermostat, boiler, order, Events, past, clock}
 use Rattle.turns.specs.Events.{held, passed, dropped, refused, accepted, exception, sent, answer, no-answer, Notes, about, ends}
+use Rattle.turns.specs.Exchange.{Own, Lacks}
 use Rattle.turns.specs.Promise.{View, Answers}
 use Rattle.turns.specs.Scene.{Scene}
 
--- Own j w q: q is the frame of the query w, when it goes out at event j
-abbrev pub Owns : Type 1
-Owns = ℕ → Query → Frame → Type 0
-
-abbrev pub lineView : Owns → Events → Notes → View Query
-lineView Own h s = record {
+abbrev pub lineView : Events → Notes → View Query
+lineView h s = record {
   past = past h;
   Tick = λ n. h n ≡ tick;
   Boils = λ w n b. h n ≡ boiler b;
   Asks = λ w n. h n ≡ order w;
   Accepts = λ n. s n ≡ accepted;
+  Lacking = λ w n. s n ≡ exception 4;
   Busy = λ w n. s n ≡ exception 6;
   Sends = λ w n q. s n ≡ sent Modbus q;
-  Own = λ w n q. Own n w q;
+  Own = λ w n q. Own s n w q;
+  Lacks = λ w n. Lacks s n w;
   Ends = λ n. about (s n) ≡ ends;
   Answer = λ w k b n. s k ≡ answer b n;
   NoAnswer = λ w k n. s k ≡ no-answer n;

@@ -1,8 +1,8 @@
 -- A word by its fields: every word has them, the readers give them back, and a word that is built has those that went in, spare bits 0,
--- and even parity.
+-- and even parity; and there is one such word.
 -- Assumes nothing.
 use mathlib.Core.Path.{_≡_}
-use Prim.Native.Nat.{ℕ, _/_, _%_, _^_, _<_}
+use Prim.Native.Nat.{ℕ, _+_, _*_, _/_, _%_, _^_, _<_}
 use native.Mathlib.Omega.{arith}
 use borrow.Author.Tests.{le-ltb, eqb-true}
 use native.Mathlib.Nat.{mod-lt}
@@ -10,7 +10,7 @@ use lib.Count.{ones}
 use Rattle.word.specs.declared.Built.the-variants.{Word}
 use Rattle.word.specs.Frame.{typeOf, spareOf, idOf, valueOf, evenOf, bare, evened, builtOf}
 use Rattle.word.specs.Fields.{Fields, Fit, wordOf, Read, BuiltFrom}
-use Rattle.word.proofs.Parity.{two-pos, evened-even}
+use Rattle.word.proofs.Parity.{two-pos, above, evened-even}
 
 pub fields : (f : Fields) → Fit f → Read f
 unfolding typeOf spareOf idOf valueOf
@@ -34,3 +34,13 @@ written t i v ht hi hv =
     let p = ones (bare t i v) % 2 in
     let e = eqb-true (ones (evened (bare t i v)) % 2) 0 (evened-even (bare t i v) (omega arith)) in
     (evened (bare t i v), (rw small, record { parity = p; one-bit = mod-lt (ones (bare t i v)) two-pos; word = omega arith; even = e }))
+
+-- of a word that is built, the parity bit is that of the other bits
+parity-of : (t i v w : ℕ) → t < 8 → i < 256 → v < 65536 → (f : BuiltFrom t i v w) → f .parity ≡ ones (bare t i v) % 2
+parity-of t i v w ht hi hv f =
+    let is : w ≡ bare t i v + f .parity * 2 ^ 31 = omega (arith, f .word) in
+    let even : ones (bare t i v + f .parity * 2 ^ 31) % 2 ≡ 0 = rw is at (f .even) in
+    omega (arith, above (f .parity) (bare t i v) (f .one-bit) (omega arith), even, f .one-bit)
+
+pub one-word : (t i v w x : ℕ) → t < 8 → i < 256 → v < 65536 → BuiltFrom t i v w → BuiltFrom t i v x → w ≡ x
+one-word t i v w x ht hi hv f g = omega (arith, f .word, g .word, parity-of t i v w ht hi hv f, parity-of t i v x ht hi hv g)

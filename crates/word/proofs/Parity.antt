@@ -69,17 +69,19 @@ flip-parity k w = go (eqb (ones w % 2) 0) refl
     go true e = let even = eqb-true (ones w % 2) 0 e in ne-eqb (ones (flip k w) % 2) 0 (λ z. omega (arith, flipped k w))
     go false e = let odd = eqb-false (ones w % 2) 0 e in eq-eqb (ones (flip k w) % 2) 0 (omega (arith, flipped k w))
 
--- below 2 ^ 31 the bit that `evened` adds is a bit of its own
+-- above a number below 2 ^ 31 the parity bit is a bit of its own
 one-bit : (r : ℕ) → r < 2 → ones r ≡ r
 unfolding ones
 one-bit zero h = refl
 one-bit (suc zero) h = refl
 one-bit (suc (suc r)) h = omega arith
 
+pub above : (p b : ℕ) → p < 2 → b < 2 ^ 31 → ones (b + p * 2 ^ 31) ≡ p + ones b
+above p b m h = ap ones (add-comm b (p * 2 ^ 31)) ∙ ones-cat 31 p b h ∙ ap (λ (x : ℕ). x + ones b) (one-bit p m)
+
 pub evened-even : (b : ℕ) → b < 2 ^ 31 → evenOf (evened b) ≡ true
 unfolding evenOf
 evened-even b h =
     let p = ones b % 2 in
-    let m : p < 2 = mod-lt (ones b) two-pos in
-    let e : ones (evened b) ≡ p + ones b = ap ones (add-comm b (p * 2 ^ 31)) ∙ ones-cat 31 p b h ∙ ap (λ (x : ℕ). x + ones b) (one-bit p m) in
+    let e = above p b (mod-lt (ones b) two-pos) h in
     eq-eqb (ones (evened b) % 2) 0 (omega arith)

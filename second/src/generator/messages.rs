@@ -29,7 +29,9 @@ pub fn own_request(random: &mut Random) -> Vec<u8> {
 pub fn strange(random: &mut Random) -> Vec<u8> {
     let row = random.below(ROWS.len() as u64) as usize;
     let unit = random.between(1, 5) as u8;
-    let id = random.byte();
+    let other = random.byte();
+    // The ids whose question is refused where no status is known: the other checks come first.
+    let id = random.pick(&[0, 70, other, other]);
     let mut draft = Draft::of(random, row, unit, id);
     let first = random.below(8);
     spoil(random, &mut draft, first);

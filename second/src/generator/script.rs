@@ -3,6 +3,7 @@
 
 mod frames;
 mod orders;
+mod status;
 mod time;
 
 use std::io;
@@ -11,7 +12,6 @@ use super::{messages, strange_lines};
 use crate::digits::pairs;
 use crate::programs::replay::Replay;
 use crate::random::Random;
-use crate::word;
 
 /// The other side may run under an emulator, so time is spent sparingly.
 const TICKS_PER_LINE: u64 = 20;
@@ -48,9 +48,14 @@ struct Script {
     longest_waits: u32,
     /// How often each line's thermostat speaks, drawn anew from time to time.
     chatty: [u64; 4],
+    /// For each line and status id the script's line from which on a status may go out.
+    status_from: [[usize; 2]; 4],
+    /// Those that have been asked for since their first status went out.
+    first_asked: [[bool; 2]; 4],
 }
 
-pub fn script(random: Random, size: usize) -> Vec<u8> {
+pub fn script(mut random: Random, size: usize) -> Vec<u8> {
+    let status_from = status::times(&mut random, size);
     let mut script = Script {
         random,
         model: Replay::fresh(),
@@ -61,6 +66,8 @@ pub fn script(random: Random, size: usize) -> Vec<u8> {
         plan: None,
         longest_waits: 0,
         chatty: [1; 4],
+        status_from,
+        first_asked: [[false; 2]; 4],
     };
     if script.random.percent(50) {
         script.longest_wait();
@@ -81,6 +88,7 @@ impl Script {
                 *chatty = self.random.pick(&[0, 1, 5, 20]);
             }
         }
+        self.first_status();
         match self.random.below(100) {
             0..=11 => self.thermostat(),
             12..=24 => self.boiler(),
@@ -99,6 +107,8 @@ impl Script {
                 self.say(&line);
             }
             53..=54 => self.short_room(),
+            55 => self.held_status(),
+            56..=58 => self.status_order(),
             _ => self.advance(),
         }
     }
@@ -153,7 +163,7 @@ impl Script {
             .model
             .gateway
             .order
-            .map_or(25, |order| word::id_of(order.question));
+            .map_or(25, |order| order.question.id());
         let other = self.random.byte();
         self.random
             .pick(&[0, 1, 25, asked, asked, other, other, other])

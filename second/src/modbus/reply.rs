@@ -3,6 +3,7 @@
 use super::checksum::closed;
 use super::exceptions;
 use super::rows::{Form, ROWS};
+use crate::status::Question;
 use crate::word;
 
 /// What is kept of a request from acceptance until its outcome.
@@ -13,7 +14,7 @@ pub struct Order {
     pub offset: u16,
     /// The place in `ROWS`.
     pub row: usize,
-    pub question: u32,
+    pub question: Question,
 }
 
 /// The reply to an order: its answer from the boiler, or none.

@@ -62,9 +62,15 @@ impl Replay {
                 return Ok(());
             }
             Command::Frame(side, line, word) => self.frame(side, line, word),
-            Command::Modbus(message) => self.gateway.message(&message, self.room),
+            Command::Modbus(message) => self.message(&message),
         };
         self.print(&event, trace)
+    }
+
+    fn message(&mut self, message: &[u8]) -> Event {
+        let given = self.gateway.message(message, self.room);
+        self.tally.asked(message, &given);
+        given
     }
 
     /// Where a spare bit is set, the box as it was is asked what the frame would have brought
@@ -98,10 +104,10 @@ impl Replay {
         self.tally.event(event);
         let time = self.time;
         match event {
-            Event::Sent { line, word } => writeln!(trace, "{time} sent {line} {word:08X}"),
+            Event::Sent { line, word, .. } => writeln!(trace, "{time} sent {line} {word:08X}"),
             Event::Passed { line, word } => writeln!(trace, "{time} passed {line} {word:08X}"),
             Event::Dropped { line } => writeln!(trace, "{time} dropped {line}"),
-            Event::Held { line } => writeln!(trace, "{time} held {line}"),
+            Event::Held { line, .. } => writeln!(trace, "{time} held {line}"),
             Event::Accepted { order } => writeln!(trace, "{time} accepted {}", order.unit),
             Event::Reply { bytes } => writeln!(trace, "{time} reply {}", pairs(bytes)),
             Event::Outcome { bytes, wait, .. } => {

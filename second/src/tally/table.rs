@@ -5,11 +5,12 @@ use super::{Tally, Thing, KINDS};
 use crate::modbus::{exceptions, Form, ROWS};
 use crate::word;
 
-/// Exceptions given at once; unit 5 gives all of them but the last.
-const AT_ONCE: [u8; 4] = [
+/// Exceptions given at once; unit 5 gives the first three alone.
+const AT_ONCE: [u8; 5] = [
     exceptions::ILLEGAL_FUNCTION,
     exceptions::ILLEGAL_ADDRESS,
     exceptions::ILLEGAL_VALUE,
+    exceptions::DEVICE_FAILURE,
     exceptions::DEVICE_BUSY,
 ];
 /// Exceptions that an outcome brings.
@@ -110,6 +111,7 @@ impl Tally {
         let mut all: Vec<Entry> = plain_and_refusals().into_iter().map(counted).collect();
         all.extend(self.spare_entries());
         all.extend(modbus().into_iter().map(counted));
+        all.extend(self.status_entries());
         // Not every round has a short tail; a fixed vector always has one.
         let short = self.of(Thing::ShortListed);
         all.push(Entry::shown("listed: short tail", short));

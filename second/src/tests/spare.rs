@@ -5,6 +5,7 @@ use crate::line::{Answered, Line, State};
 use crate::modbus;
 use crate::programs::{self, Name};
 use crate::samples::{self, Heard, Reader};
+use crate::status::Question;
 use crate::word;
 
 const READ_25: u32 = 0x8019_0000;
@@ -23,7 +24,7 @@ fn lines() -> Vec<Line> {
     let mut held = Line::fresh();
     held.thermostat(READ_25).unwrap();
     let mut ordered = Line::fresh();
-    ordered.order(READ_25);
+    ordered.order(Question::Word(READ_25));
     let mut all = vec![Line::fresh()];
     for mut line in [held, ordered] {
         for tick in 0..=975 {

@@ -67,3 +67,68 @@ fn a_spoilt_answer_counts_as_one_and_so_does_the_good_one_behind_it() {
     let ended = format!("{order}{spoilt}tick 791\n");
     assert_eq!(has(&format!("{ended}{order}{good}")), [true, false]);
 }
+
+/// The counts of Ask 2 that a script brings.
+fn status_counts(script: &str) -> Vec<String> {
+    let missing = missing(script);
+    let seen = |name: &String| !missing.contains(name);
+    let named = |name: &String| name.contains("status") || name.starts_with("04 at once");
+    let all = Tally::default().missing();
+    all.into_iter().filter(named).filter(seen).collect()
+}
+
+const NONE: &str = ": no status of any id ever came on this line";
+
+/// What comes before id 0's status is asked for on line 1, and the grounds for 04 then.
+#[rustfmt::skip]
+const GROUNDS: [(&str, &[&str]); 9] = [
+    ("", &[NONE]),
+    ("thermostat 1 00000312\n", &[": the status is held and not yet out"]),
+    ("thermostat 1 00000312\nthermostat 1 80190000\n", &[": the status was replaced while held"]),
+    ("thermostat 1 00460155\ntick 100\n", &[" for id 0: id 70's status went out"]),
+    ("thermostat 2 00000312\ntick 100\n", &[NONE, ": this id's status went out on another line"]),
+    ("thermostat 1 90000300\ntick 100\n", &[NONE, ": the thermostat's WRITE-DATA went out"]),
+    ("thermostat 1 A0000300\ntick 100\n", &[NONE, ": the thermostat's INVALID-DATA went out"]),
+    ("modbus 0141000003000000D087\ntick 975\n", &[NONE, ": an order's READ-DATA by 41 went out"]),
+    ("modbus 01170000000100000001020300545E\ntick 975\n", &[NONE, ": an order's READ-DATA by 17 went out"]),
+];
+
+#[test]
+fn each_ground_for_04_is_told_apart() {
+    let named = |ground: &&str| format!("04 at once{ground}");
+    for (before, grounds) in GROUNDS {
+        let mut counts = status_counts(&format!("{before}modbus 010300000001840A\n"));
+        counts.retain(|name| name.starts_with("04 at once"));
+        assert_eq!(counts, grounds.iter().map(named).collect::<Vec<_>>());
+    }
+    assert_eq!(status_counts("modbus 01030019000155CD\n"), [""; 0]);
+}
+
+#[test]
+fn which_status_was_sent_is_told_apart() {
+    let older = "thermostat 1 00000312\ntick 975\n";
+    let newer = "thermostat 1 00000701\n";
+    let asks = "modbus 010300000001840A\n";
+    let other = "modbus 01030019000155CD\ntick 975\n";
+    let counts = |script: String| {
+        let mut counts = status_counts(&script);
+        counts.retain(|name| name.starts_with("status sent: "));
+        counts
+    };
+    let plain = [
+        "low byte 0, the thermostat's wasn't",
+        "high byte not 00",
+        "03 on id 0",
+    ];
+    let named = |name: &str| format!("status sent: {name}");
+    let alone = counts(format!("{older}{asks}tick 100\n"));
+    assert_eq!(alone, plain.map(named));
+    let held = counts(format!("{older}{newer}{asks}tick 100\n"));
+    assert_eq!(held[0], named("not the newer one that is held"));
+    assert_eq!(held[1..], alone);
+    let between = counts(format!("{older}{other}{newer}{asks}tick 1075\n"));
+    assert_eq!(between[0], named("a newer one than at acceptance"));
+    assert_eq!(between[1..], alone);
+    // What was only accepted hasn't been sent.
+    assert_eq!(counts(format!("{older}{asks}tick 99\n")), [""; 0]);
+}

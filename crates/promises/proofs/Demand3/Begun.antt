@@ -3,7 +3,6 @@
 -- Assumes nothing.
 use Prim.Native.Nat.{ℕ, suc}
 use mathlib.Core.Path.{_≡_, refl, sym, ap, _∙_, subst}
-use mathlib.Core.Logic.{⊎-elim}
 use mathlib.Core.Bool.{Bool, true, false, cond}
 use mathlib.Core.List.{[]}
 use lib.Dec.{eqb}
@@ -12,7 +11,7 @@ use Rattle.word.proofs.Clash.{clash}
 use Rattle.turns.specs.declared.Query.{Query}
 use Rattle.turns.specs.Events.{Event, ends, Never}
 use Rattle.turns.specs.Events as line
-use Rattle.turns.specs.Promise.{Accepted, UnderWay}
+use Rattle.turns.specs.Promise.{Accepted, UnderWay, Told, taken, lacking, busy}
 use Rattle.turns.specs.History.{sight}
 use Rattle.modbus.specs.declared.Order.{Order}
 use Rattle.modbus.specs.declared.Reading.the-variants as reading
@@ -29,6 +28,7 @@ use Rattle.promises.specs.Demand3.{AsksFor}
 use Rattle.promises.proofs.Entries.Cases.{gift, Case, aside, ticks, relays, hears, takes, case-of}
 use Rattle.promises.proofs.Projection.Sight.{tick-seen, order-seen}
 use Rattle.promises.proofs.Demand3.Effects.{Effect, begins, stays, finishes, unit-of, effect-at}
+use Rattle.promises.proofs.Demand3.Lacking.{has-status, lack-there}
 use Rattle.promises.proofs.Demand3.Under.{seen, E, S, under, under-next, track, on-line}
 
 -- an input that is an order to line k is an accepted message
@@ -56,7 +56,7 @@ module _ (W : Wrapping) (g : Gateway) {k : ℕ} (f : Four k) (w : Query) where
       absurd
       (other (line.boiler x) (eqb l k) (λ q. clash cc)
       (sym (ap (λ (b : Bool). cond b (cond (eqb l k) (line.boiler x) line.pass) line.pass) (le-leb 16 n h)) ∙ e))
-  orders {x} (takes o free asks) e = go (eqb (o .line) k) refl (sym (order-seen W k x o asks) ∙ e)
+  orders {x} (takes o has free asks) e = go (eqb (o .line) k) refl (sym (order-seen W k x o asks) ∙ e)
     where
       go : (b : Bool) → eqb (o .line) k ≡ b → cond b (line.order (questionOf o)) line.pass ≡ line.order w →
           Orders W k w x (takenOf g o .gateway) (gift accepted [] nowhere)
@@ -123,8 +123,16 @@ module _ {W : Wrapping} (law : Lawful W) (h : Inputs) where
           ∙ ap (λ (b : Bool). cond b (line.order (questionOf o)) line.pass) (eq-eqb (o .line) (o .line) refl)
 
       -- no line of the box is asked twice
-      busy : under law h i ≡ Nothing → UnderWay (sight (E law h (o .line))) i → ⊥
-      busy free u = let b = held unit i u in let e : Nothing ≡ Waits (b .begun .o) = sym free ∙ b .waits in clash cc
+      not-twice : under law h i ≡ Nothing → UnderWay (sight (E law h (o .line))) i → ⊥
+      not-twice free u = let b = held unit i u in let e : Nothing ≡ Waits (b .begun .o) = sym free ∙ b .waits in clash cc
+
+      ready : under law h i ≡ Nothing → Told (sight (E law h (o .line))) i (questionOf o) → S law h (o .line) i ≡ line.accepted
+      ready free (taken e has none) = e
+      ready free (lacking e l) =
+          let x = has-status W (boxAt W h i) o (h i) (acc .asked) (acc .taken) in
+          let y = lack-there law h i o unit l in
+          clash cc
+      ready free (busy e has u) = absurd (not-twice free u)
 
       go : Effect W (boxAt W h i) (h i) (next W (boxAt W h i) (h i)) (given W h i) → Taken i o
       go (begins p was is ask t) = record {
@@ -133,7 +141,7 @@ module _ {W : Wrapping} (law : Lawful W) (h : Inputs) where
         first = under-next law h i ∙ is ∙ ap Waits (one-order o p (h i) (acc .asked) ask);
         there = record {
           asked = asked;
-          taken = ⊎-elim (λ e. e) (λ d. absurd (busy was (d .0))) (on-line law h (o .line) .ready i (questionOf o) asked);
+          taken = ready was (on-line law h (o .line) .ready i (questionOf o) asked);
         };
       }
       go (stays same z u) = let one = ap concernOf (acc .taken) in clash cc

@@ -5,7 +5,7 @@ use mathlib.Core.Path.{_≡_, refl, sym, ap, _∙_, subst}
 use mathlib.Core.Logic.{_⊎_, inl, inr, ⊎-elim}
 use native.Mathlib.Omega.{arith}
 use Rattle.word.proofs.Clash.{clash}
-use Rattle.turns.specs.Events.{Events, Notes, about, ends, Never}
+use Rattle.turns.specs.Events.{Events, Notes, about, ends, No, Never}
 use Rattle.turns.specs.Events as line
 use Rattle.turns.specs.Promise.{View, Demand3, UnderWay}
 use Rattle.turns.specs.History.{notes, sight}
@@ -98,6 +98,20 @@ module _ {W : Wrapping} (law : Lawful W) (h : Inputs) where
   pub quiet : (i : ℕ) (o : Order) → under (suc i) ≡ Waits o → (n : ℕ) → Never (S (o .line)) ends i n → (m : ℕ) → i < m → m < n →
       concernOf (given W h m .told) ≡ nothing
   quiet i o first n nev m lo hi = keeps m o (track i o first m lo (λ x l g on. nev x l (omega arith) on)) (λ on. nev m lo hi on) .aside
+
+  -- and so it is as long as no outcome is told
+  pub lasts : (i : ℕ) (o : Order) → under (suc i) ≡ Waits o → (n : ℕ) → i < n → No (seen .Ends) i n → under n ≡ Waits o
+  lasts i o first zero lt none = absurd (omega arith)
+  lasts i o first (suc m) lt none = go (last-or i m lt) (lasts i o first m)
+    where
+      on : under m ≡ Waits o → i < m → Effect W (boxAt W h m) (h m) (next W (boxAt W h m) (h m)) (given W h m) → under (suc m) ≡ Waits o
+      on was old (begins p free is ask t) = clash (let e : Waits o ≡ Nothing = sym was ∙ free in cc)
+      on was old (stays same z u) = under-next m ∙ same ∙ was
+      on was old (finishes p r w was′ is op t wr) = absurd (none m old (omega arith) (_, w, t))
+
+      go : (i < m) ⊎ (i ≡ m) → (i < m → No (seen .Ends) i m → under m ≡ Waits o) → under (suc m) ≡ Waits o
+      go (inl old) before = on (before old (λ x lo hi e. none x lo (omega arith) e)) old (effect-at law h m)
+      go (inr is) before = subst (λ (x : ℕ). under (suc x) ≡ Waits o) is first
 
   -- where the order under way comes from
   pub record From (n : ℕ) (o : Order) : Type 0 where

@@ -3,7 +3,7 @@
 use Prim.Native.Nat.{ℕ, _≤_}
 use mathlib.Core.Path.{_≡_, refl, sym, ap, _∙_, subst, subst⁻¹}
 use mathlib.Core.Logic.{_⊎_, inl, inr, ⊎-elim}
-use mathlib.Core.Bool.{Bool, true, false}
+use mathlib.Core.Bool.{Bool, true, false, cond}
 use mathlib.Core.List.{List, [], _∷_}
 use native.Mathlib.Omega.{arith}
 use lib.Dec.{eqb}
@@ -16,6 +16,7 @@ use Rattle.word.proofs.Checks.{either}
 use Rattle.turns.specs.Events.{Event}
 use Rattle.turns.specs.Events as line
 use Rattle.modbus.specs.declared.Order.{Order}
+use Rattle.modbus.specs.Outcomes.{lackingOf}
 use Rattle.modbus.specs.declared.Reading.{Reading}
 use Rattle.modbus.specs.declared.Reading.the-variants as reading
 use Rattle.modbus.specs.Wrapping.{Wrapping, Lawful}
@@ -27,7 +28,7 @@ use Rattle.promises.specs.Box.{Gateway, Moved, Ticked, Steps}
 use Rattle.promises.specs.Notes.{BoxNote, passed, refused, boxNoteOf}
 use Rattle.promises.specs.Four.{lineOf, ticksOf}
 use Rattle.promises.specs.Settle.{tellOf}
-use Rattle.promises.specs.Entries.{Does, roomy, tickedOf, readOf, askedOf, asksOf, takenOf, replied}
+use Rattle.promises.specs.Entries.{Does, roomy, tickedOf, readOf, askedOf, lackOf, asksOf, takenOf, replied}
 use Rattle.promises.specs.Inputs.{Input, tick, thermostat, boiler, message, Inputs}
 use Rattle.promises.specs.History.{giftOf, boxAt, given}
 use Rattle.promises.specs.Projection.{eventsOn, Says}
@@ -39,7 +40,7 @@ use Rattle.promises.proofs.Entries.Laws.{tick-yes, message-yes}
 use Rattle.promises.proofs.Entries.Cases.{tickEnd}
 use Rattle.promises.proofs.Projection.{projects}
 use Rattle.promises.proofs.Projection.Speeches.{Speech, none, quiet as silently, sent, over, held as holds, refused as refusing, answer}
-use Rattle.promises.proofs.Projection.Speeches.{passed as passes, dropped as drops, unheard, taken, busy, speech}
+use Rattle.promises.proofs.Projection.Speeches.{passed as passes, dropped as drops, unheard, taken, excepted, speech}
 use Rattle.promises.proofs.Projection.Sight.{boiler-seen}
 use Rattle.promises.proofs.Projection.Project.{note-is}
 use Rattle.promises.proofs.Refused.{demand1, held-where}
@@ -97,7 +98,11 @@ module _ {W : Wrapping} (law : Lawful W) (g : Gateway) where
   unfolding readOf replied asksOf
   read-may b room (reading.Silent n) (all e (all on p)) = clash cc
   read-may b room (reading.AtOnce r) p = message-replied
-  read-may b room (reading.Accepted o) p = asked-may b room o (g .asked)
+  read-may b room (reading.Accepted o) p = go (lackOf (g .lines) o)
+    where
+      go : (l : Bool) → May (message b room) (boxNoteOf (cond l (replied W g (lackingOf o)) (askedOf W g (g .asked) o) .result .told))
+      go true = message-replied
+      go false = asked-may b room o (g .asked)
 
 -- a boiler frame is told what its line says of it
 boiler-may : {e : Event} {s : line.Note} → Speech e s → (l : ℕ) (f : Frame) (room c : ℕ) (t : BoxNote) → e ≡ line.boiler f → Says s c t →
@@ -113,7 +118,7 @@ boiler-may (over w) l f room c t is q off = clash cc
 boiler-may holds l f room c t is q off = clash cc
 boiler-may (refusing n) l f room c t is q off = clash cc
 boiler-may taken l f room c t is q off = clash cc
-boiler-may busy l f room c t is q off = clash cc
+boiler-may (excepted n) l f room c t is q off = clash cc
 
 -- ---- a history
 

@@ -35,7 +35,7 @@ impl Draft {
         // Where the row names no page, any high byte is good.
         let page = match row.page {
             Some(page) => page,
-            None => random.pick(&[0x00, 0x00, 0x01, 0x02, 0x03, 0x80, 0xFF]),
+            None => random.pick(&[0x00, 0x00, 0x01, 0x02, 0x03, 0x05, 0x80, 0xFF]),
         };
         let offset = u16::from_be_bytes([page, id]);
         let mut draft = Draft {

@@ -24,11 +24,14 @@ impl Script {
         }
         let value = u32::from(self.random.word() as u16);
         let mut frame = kind << 28 | u32::from(self.id()) << 16 | value;
-        if self.random.percent(20) {
+        let place = (line as usize).clamp(1, 4) - 1;
+        match self.random.below(10) {
             // The word of a talk once more: later is later, though nothing in it is new.
-            let place = (line as usize).clamp(1, 4) - 1;
-            frame = self.talked(place).unwrap_or(frame);
+            0 | 1 => frame = self.talked(place).unwrap_or(frame),
+            2..=5 if kind <= 2 => frame = self.status_frame(),
+            _ => {}
         }
+        frame = self.in_its_time(place, frame);
         frame = word::with_even_parity(frame) ^ u32::from(odd) << 31;
         if self.random.percent(20) {
             frame = splice::noisy(&mut self.random, frame);

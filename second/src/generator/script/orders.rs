@@ -17,7 +17,8 @@ impl Script {
         self.deck.pop().expect("the deck was just filled")
     }
 
-    /// A well-formed request: an order if none waits, else exception 06.
+    /// A well-formed request: an order if none waits, else exception 06; exception 04 where it asks
+    /// for a status that isn't known.
     pub(super) fn order(&mut self) {
         let full_rest = |place: &usize| {
             let line = &self.model.gateway.lines[*place];
@@ -29,20 +30,22 @@ impl Script {
         } else {
             self.random.below(4) as usize
         };
-        let plan = self.next_plan();
-        self.order_on(place, plan);
+        let (plan, id) = (self.next_plan(), self.order_id());
+        if !self.order_on(place, plan, id) {
+            self.deck.push(plan);
+        }
     }
 
-    pub(super) fn order_on(&mut self, place: usize, plan: Plan) {
-        let id = self.id();
+    /// True where it is accepted.
+    pub(super) fn order_on(&mut self, place: usize, plan: Plan, id: u8) -> bool {
         let message = messages::request(&mut self.random, plan.row, place as u8 + 1, id);
         let waited = self.model.gateway.order.is_some();
         self.modbus(&message);
-        if !waited && self.model.gateway.order.is_some() {
+        let accepted = !waited && self.model.gateway.order.is_some();
+        if accepted {
             self.plan = Some(plan);
-        } else {
-            self.deck.push(plan);
         }
+        accepted
     }
 
     pub(super) fn odd_message(&mut self) {

@@ -125,16 +125,15 @@ impl Script {
         let place = self.random.pick(&places);
         if self.model.gateway.lines[place].held.is_none() {
             let frame = word::build(self.random.below(3) as u8, self.id(), 0).expect("a low type");
+            let frame = self.in_its_time(place, frame);
             self.frame("thermostat", place as u64 + 1, frame);
         }
-        let row = self.random.below(ROWS.len() as u64) as usize;
-        self.order_on(
-            place,
-            Plan {
-                row,
-                end: End::Silent,
-            },
-        );
+        // A status that isn't known is answered at once, and then another order is tried.
+        while self.model.gateway.order.is_none() && self.lines < self.size {
+            let row = self.random.below(ROWS.len() as u64) as usize;
+            let (end, id) = (End::Silent, self.order_id());
+            self.order_on(place, Plan { row, end }, id);
+        }
         let mut left = 1950;
         while left > 0 && self.lines < self.size {
             let count = self.random.between(1, 700).min(left);

@@ -7,11 +7,14 @@ use Rattle.requests.proofs.map.order.Tie as tie
 offset-requires : tie.Need-offset-requires
 offset-requires c κs = search needs
 
-cast-t9 : tie.Need-cast-t9
-cast-t9 c = search needs
+cast-t10 : tie.Need-cast-t10
+cast-t10 c = search needs
+
+alone-requires : tie.Need-alone-requires
+alone-requires c κs = search needs
 
 returns : tie.Need-returns
-returns c = rw (← c .offset .ensures)
+returns c = rw (← c .before .offset .ensures, ← c .alone .ensures)
 
 pub order-spec : {M : Type 1} → statement M
-order-spec = tie.close (tie.spec offset-requires cast-t9 returns)
+order-spec = tie.close (tie.spec offset-requires cast-t10 alone-requires returns)
