@@ -13,10 +13,9 @@ use lib.Dec.{eqb}
 use borrow.Author.Tests.{eqb-true, eqb-false, eq-eqb}
 use Rattle.word.proofs.Clash.{clash}
 use Rattle.word.proofs.Match.{both}
-use Rattle.word.proofs.Fields.{written}
-use Rattle.word.specs.declared.Built.the-variants.{Word}
+use Rattle.word.proofs.Fields.{built-from}
 use Rattle.word.specs.declared.Frame.{Frame}
-use Rattle.word.specs.Frame.{typeOf, idOf, valueOf, read-data, bare, evened, builtOf}
+use Rattle.word.specs.Frame.{typeOf, idOf, valueOf, read-data}
 use Rattle.word.specs.Fields.{BuiltFrom}
 use Rattle.turns.specs.Line.{Line, Step}
 use Rattle.turns.specs.declared.Query.{Query}
@@ -56,12 +55,8 @@ exchanged w x = rw (x .alone) (⊎-elim (λ e. rw e) (λ e. rw e) (x .named))
 
 -- READ-DATA with the id and the byte
 built : (i b : ℕ) → i < 256 → b < 256 → BuiltFrom 0 i (b * 256) (statusWord i b)
-unfolding statusWord builtOf
-built i b hi hb =
-    let x = written 0 i (b * 256) (omega arith) (omega arith) (omega arith) in
-    let e : builtOf 0 i (b * 256) ≡ Word (x .0) = x .1 .0 in
-    let same : x .0 ≡ evened (bare read-data i (b * 256)) = cc in
-    subst (λ (w : ℕ). BuiltFrom 0 i (b * 256) w) same (x .1 .1)
+unfolding statusWord
+built i b hi hb = built-from 0 i (b * 256) (omega arith) hi (omega arith)
 
 -- ---- over the notes
 

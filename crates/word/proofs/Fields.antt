@@ -7,9 +7,11 @@ use native.Mathlib.Omega.{arith}
 use borrow.Author.Tests.{le-ltb, eqb-true}
 use native.Mathlib.Nat.{mod-lt}
 use lib.Count.{ones}
-use Rattle.word.specs.declared.Built.the-variants.{Word}
+use Rattle.word.specs.declared.Built.{Built}
+use Rattle.word.specs.declared.Built.the-variants.{Word, Refused}
 use Rattle.word.specs.Frame.{typeOf, spareOf, idOf, valueOf, evenOf, bare, evened, builtOf}
 use Rattle.word.specs.Fields.{Fields, Fit, wordOf, Read, BuiltFrom}
+use Rattle.word.proofs.Clash.{clash}
 use Rattle.word.proofs.Parity.{two-pos, above, evened-even}
 
 pub fields : (f : Fields) → Fit f → Read f
@@ -27,13 +29,27 @@ of-fields w h =
     )
 
 -- a type up to 7 is built
-pub written : (t i v : ℕ) → t < 8 → i < 256 → v < 65536 → (w : ℕ) × ((builtOf t i v ≡ Word w) × BuiltFrom t i v w)
-unfolding builtOf evenOf
-written t i v ht hi hv =
-    let small = le-ltb 7 t (omega arith) in
+pub built-word : (t i v : ℕ) → t < 8 → builtOf t i v ≡ Word (evened (bare t i v))
+unfolding builtOf
+built-word t i v ht = rw (le-ltb 7 t (omega arith))
+
+-- so what is built is that word, and never a refusal
+pub is-built : (t i v w : ℕ) (b : Built) → t < 8 → b ≡ builtOf t i v → b ≡ Word w → w ≡ evened (bare t i v)
+is-built t i v w b ht made is = let one = built-word t i v ht in cc
+
+pub not-refused : (t i v n : ℕ) (b : Built) → t < 8 → b ≡ builtOf t i v → b ≡ Refused n → ⊥
+not-refused t i v n b ht made is = let one = built-word t i v ht in clash cc
+
+-- from its type, id and value
+pub built-from : (t i v : ℕ) → t < 8 → i < 256 → v < 65536 → BuiltFrom t i v (evened (bare t i v))
+unfolding evenOf
+built-from t i v ht hi hv =
     let p = ones (bare t i v) % 2 in
     let e = eqb-true (ones (evened (bare t i v)) % 2) 0 (evened-even (bare t i v) (omega arith)) in
-    (evened (bare t i v), (rw small, record { parity = p; one-bit = mod-lt (ones (bare t i v)) two-pos; word = omega arith; even = e }))
+    record { parity = p; one-bit = mod-lt (ones (bare t i v)) two-pos; word = omega arith; even = e }
+
+pub written : (t i v : ℕ) → t < 8 → i < 256 → v < 65536 → (w : ℕ) × ((builtOf t i v ≡ Word w) × BuiltFrom t i v w)
+written t i v ht hi hv = (evened (bare t i v), (built-word t i v ht, built-from t i v ht hi hv))
 
 -- of a word that is built, the parity bit is that of the other bits
 parity-of : (t i v w : ℕ) → t < 8 → i < 256 → v < 65536 → (f : BuiltFrom t i v w) → f .parity ≡ ones (bare t i v) % 2
