@@ -1,5 +1,5 @@
 -- What a line remembers of the thermostat's own status is what the history shows, and a status question that waits has its status.
---     agrees           at each event, from what a step does to it (`kept`)
+--     agrees           at each event, from what a step does to it (`changes`)
 --     sure             an order that waits is no status question, or its status is known
 --     gives            so the frame of the order that waits is its own
 --     lack, lack-back  the line lacks a status exactly where the history does
@@ -61,9 +61,9 @@ built i b hi hb = built-from 0 i (b * 256) (omega arith) hi (omega arith)
 -- ---- over the notes
 
 -- what the status becomes, by what is said
-data Kept (m : Status) (t : Note) : Status → Type 0 where
-  showing : (f : Frame) → t ≡ sent Thermostat f → Kept m t (showsOf m f)
-  keeping : (about t ≡ relays → ⊥) → Kept m t m
+data Changes (m : Status) (t : Note) : Status → Type 0 where
+  showing : (f : Frame) → t ≡ sent Thermostat f → Changes m t (showsOf m f)
+  keeping : (about t ≡ relays → ⊥) → Changes m t m
 
 module _ (s : Notes) where
   -- the flags x are those of the last frame with the id i before event n
@@ -114,7 +114,7 @@ module _ (s : Notes) where
     pub heats : Agrees 0 n (m .heating)
     pub vents : Agrees 70 n (m .ventilation)
 
-  agree-next : (n : ℕ) {m k : Status} → Kept m (s n) k → Agree n m → Agree (suc n) k
+  agree-next : (n : ℕ) {m k : Status} → Changes m (s n) k → Agree n m → Agree (suc n) k
   unfolding showsOf
   agree-next n {m = m} (showing f e) a =
       record { heats = shown 0 n (m .heating) f e (a .heats); vents = shown 70 n (m .ventilation) f e (a .vents) }
@@ -168,25 +168,25 @@ module _ (s : Notes) where
 
 -- ---- over a line
 
-kept : {l : Line} {e : Event} {s : Step} → Happens l e s → Kept (l .status) (noteOf (s .said)) (s .line .status)
+changes : {l : Line} {e : Event} {s : Step} → Happens l e s → Changes (l .status) (noteOf (s .said)) (s .line .status)
 unfolding lineOlder endedOf
-kept (passing l) = keeping (λ on. omega arith)
-kept (resting l r lt) = keeping (λ on. omega arith)
-kept (nobody l r ge eh eo) = keeping (λ on. omega arith)
-kept (relay-sent l r f t ge eh first) = showing f refl
-kept (order-sent l r w u ge eo first) = keeping (λ on. omega arith)
-kept (talking l x q a u lt) = keeping (λ on. omega arith)
-kept (relay-silent l q a u ge) = keeping (λ on. omega arith)
-kept (order-silent l q a u ge) = keeping (λ on. omega arith)
-kept (relay-held l f) = keeping (λ on. omega arith)
-kept (relay-refused l f n) = keeping (λ on. omega arith)
-kept (order-answered l q a u f ma lo hi) = keeping (λ on. omega arith)
-kept (relay-answered l q a u f ma lo hi eh le) = keeping (λ on. omega arith)
-kept (relay-lost l q a u f ma lo hi lost) = keeping (λ on. omega arith)
-kept (boiler-refused l f n un) = keeping (λ on. omega arith)
-kept (order-lacking l w lack) = keeping (λ on. omega arith)
-kept (order-taken l w has free) = keeping (λ on. omega arith)
-kept (order-busy l w has under) = keeping (λ on. omega arith)
+changes (passing l) = keeping (λ on. omega arith)
+changes (resting l r lt) = keeping (λ on. omega arith)
+changes (nobody l r ge eh eo) = keeping (λ on. omega arith)
+changes (relay-sent l r f t ge eh first) = showing f refl
+changes (order-sent l r w u ge eo first) = keeping (λ on. omega arith)
+changes (talking l x q a u lt) = keeping (λ on. omega arith)
+changes (relay-silent l q a u ge) = keeping (λ on. omega arith)
+changes (order-silent l q a u ge) = keeping (λ on. omega arith)
+changes (relay-held l f) = keeping (λ on. omega arith)
+changes (relay-refused l f n) = keeping (λ on. omega arith)
+changes (order-answered l q a u f ma lo hi) = keeping (λ on. omega arith)
+changes (relay-answered l q a u f ma lo hi eh le) = keeping (λ on. omega arith)
+changes (relay-lost l q a u f ma lo hi lost) = keeping (λ on. omega arith)
+changes (boiler-refused l f n un) = keeping (λ on. omega arith)
+changes (order-lacking l w lack) = keeping (λ on. omega arith)
+changes (order-taken l w has free) = keeping (λ on. omega arith)
+changes (order-busy l w has under) = keeping (λ on. omega arith)
 
 -- an order that waits is no status question, or its status is known
 abbrev Sure : Queue → Status → Type 0
@@ -244,7 +244,7 @@ sure-next (order-busy l w has under) z = z
 pub agrees : (h : Events) (n : ℕ) → Agree (notes h) n (lineAt h n .status)
 unfolding lineAt saidAt
 agrees h zero = record { heats = λ m f lt sh. omega arith; vents = λ m f lt sh. omega arith }
-agrees h (suc n) = agree-next (notes h) n (kept (happens (lineAt h n) (h n))) (agrees h n)
+agrees h (suc n) = agree-next (notes h) n (changes (happens (lineAt h n) (h n))) (agrees h n)
 
 sure : (h : Events) (n : ℕ) → Sure (lineAt h n .order) (lineAt h n .status)
 unfolding lineAt

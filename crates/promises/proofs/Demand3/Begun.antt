@@ -11,7 +11,7 @@ use Rattle.word.proofs.Clash.{clash}
 use Rattle.turns.specs.declared.Query.{Query}
 use Rattle.turns.specs.Events.{Event, ends, Never}
 use Rattle.turns.specs.Events as line
-use Rattle.turns.specs.Promise.{Accepted, UnderWay, Told, taken, lacking, busy}
+use Rattle.turns.specs.Promise.{Accepted, UnderWay, OrderTold, taken, lacking, busy}
 use Rattle.turns.specs.History.{sight}
 use Rattle.modbus.specs.declared.Order.{Order}
 use Rattle.modbus.specs.declared.Reading.the-variants as reading
@@ -126,7 +126,7 @@ module _ {W : Wrapping} (law : Lawful W) (h : Inputs) where
       not-twice : under law h i ≡ Nothing → UnderWay (sight (E law h (o .line))) i → ⊥
       not-twice free u = let b = held unit i u in let e : Nothing ≡ Waits (b .begun .o) = sym free ∙ b .waits in clash cc
 
-      ready : under law h i ≡ Nothing → Told (sight (E law h (o .line))) i (questionOf o) → S law h (o .line) i ≡ line.accepted
+      ready : under law h i ≡ Nothing → OrderTold (sight (E law h (o .line))) i (questionOf o) → S law h (o .line) i ≡ line.accepted
       ready free (taken e has none) = e
       ready free (lacking e l) =
           let x = has-status W (boxAt W h i) o (h i) (acc .asked) (acc .taken) in
