@@ -1,18 +1,24 @@
 -- The code gives what the promises speak of: whatever a function's own contract allows is, in notes and bytes, what is given to that input
--- (`giftOf`, promises/specs/History), and the box that it hands back is the one that the next input comes to (`next`). The contracts speak of the
+-- (`giftOf`, promises/specs/History), and the box that it hands back is the one that the next input comes to (`next`); and a history is the run of these. The contracts speak of the
 -- code's own structs through a reading of them (specs/Reads), which could take one number for another, or forget an order.
 -- Assumes nothing.
-use mathlib.Core.Path.{_≡_, ap}
+use mathlib.Core.Path.{_≡_, refl, ap, _∙_}
 use mathlib.Core.List.{List}
-use Prim.Native.Nat.{ℕ}
+use Prim.Native.Nat.{ℕ, suc}
 use denote.Ref.{now}
 use lib.ListN.{length}
 use Rattle.word.proofs.One.{Always}
 use Rattle.modbus.specs.Wire.{placed}
 use Rattle.modbus.specs.Wrapping.{serial}
 use Rattle.promises.specs.Notes.{boxNoteOf}
-use Rattle.promises.specs.Inputs.{Input, tick, thermostat, boiler, message}
-use Rattle.promises.specs.History.{next, outAt, giftOf}
+use Rattle.turns.specs.Idle.{allIdle}
+use Rattle.line.specs.declared.Line as code-line
+use Rattle.rests.specs.Reads.{at}
+use Rattle.rests.proofs.all_idle.Reads as all-idle-reads
+use Rattle.rests.proofs.all_idle.Kinds as all-idle-kinds
+use Rattle.promises.specs.Idle.{idleBox}
+use Rattle.promises.specs.Inputs.{Input, Inputs, tick, thermostat, boiler, message}
+use Rattle.promises.specs.History.{next, outAt, giftOf, boxAt, given}
 use Rattle.promises.specs.Entries.{freshBox}
 use Rattle.promises.specs.declared.Told.{Told}
 use Rattle.gateway.specs.declared.Gateway as code
@@ -74,3 +80,15 @@ pub message-gives : Always message-kinds.ps message-kinds.r message-reads.Post
 unfolding fourOf listOf
 message-gives κs a u x p =
     (record { told = ap (λ (m : code-moved.Moved). boxNoteOf (m .told)) (p .0); box = ap (λ (m : code-moved.Moved). boxOf (m .gateway)) (p .0) }, p .1)
+
+-- and what the promises speak of is the run of these steps, from the fresh box on
+pub given-runs : (h : Inputs) → (boxAt serial h 0 ≡ freshBox)
+    × ((n : ℕ) → (boxAt serial h (suc n) ≡ next serial (boxAt serial h n) (h n)) × (given serial h n ≡ giftOf serial (boxAt serial h n) (h n)))
+unfolding boxAt
+given-runs h = (refl, λ n. (refl, refl))
+
+-- what `rests::all_idle` says of the box's lines is what `idle-box` of the crate promises wants of the box
+pub all-idle-says : Always all-idle-kinds.ps all-idle-kinds.r all-idle-reads.Post
+    (λ κs a u x. (g : code.Gateway) → a .0 ≡ g .lines → u ≡ idleBox (boxOf g))
+unfolding fourOf
+all-idle-says κs a u x p g is = p ∙ ap (λ (l : List code-line.Line). allIdle (at l 0) (at l 1) (at l 2) (at l 3)) is

@@ -40,6 +40,7 @@ use Rattle.modbus.specs.Mapping.{
 use Rattle.modbus.specs.Becomes.{Addressed, Serves}
 use Rattle.modbus.specs.Numbers.{refused, exception, two-value, bytes, readingVerdict, writtenVerdict}
 use Rattle.modbus.specs.Wire.{wireChecks, requestOf, bytesOf, placed, roomChecks, replyWritten, replyRoom}
+use Rattle.modbus.specs.Wrapping.{serial}
 use Rattle.modbus.proofs.Served.{serves, unserved}
 use Rattle.modbus.proofs.Formed.{RightForm, formed, unformed}
 
@@ -52,13 +53,13 @@ excepted u f cs next fails = ap readingVerdict (refuses (atOnce u f) next fails)
 
 -- "length 4 to 256; checksum"
 module _ (s : List ℕ) where
-  pub eleven : (length s < 4) ⊎ (256 < length s) → readingVerdict (requestOf s) ≡ refused 11
+  pub eleven : (length s < 4) ⊎ (256 < length s) → readingVerdict (serial .reads s) ≡ refused 11
   unfolding requestOf
   eleven (inl short) = silence (wireChecks s) (bodyRead (unsealed s)) (here (lt-leb 4 (length s) short))
   eleven (inr long) =
       silence (wireChecks s) (bodyRead (unsealed s)) (later (le-leb 4 (length s) (omega arith)) (here (lt-leb (length s) 256 long)))
 
-  pub twelve : 4 ≤ length s → length s ≤ 256 → passesOf s ≡ false → readingVerdict (requestOf s) ≡ refused 12
+  pub twelve : 4 ≤ length s → length s ≤ 256 → passesOf s ≡ false → readingVerdict (serial .reads s) ≡ refused 12
   unfolding requestOf
   twelve from upto other =
       silence (wireChecks s) (bodyRead (unsealed s)) (later (le-leb 4 (length s) from) (later (le-leb (length s) 256 upto) (here other)))

@@ -1,4 +1,5 @@
--- A message of bytes is read as an order exactly if it is a request by a row of 01's table with its checksum behind it, and then as that row's.
+-- A message of bytes is read as an order exactly if it is a request by a row of 01's table with its checksum behind it, and then as that row's. That
+-- is said of the serial wrapping's own reading, by which the box goes.
 -- Assumes nothing.
 use Prim.Native.Nat.{ℕ, zero, suc, _-_, _≤_}
 use mathlib.Core.Path.{_≡_, sym, ap, _∙_, subst}
@@ -17,6 +18,7 @@ use Rattle.modbus.specs.declared.Reading.the-variants.{Silent, Accepted}
 use Rattle.modbus.specs.Mapping.{bodyRead}
 use Rattle.modbus.specs.Numbers.{readingVerdict}
 use Rattle.modbus.specs.Wire.{wireChecks, requestOf}
+use Rattle.modbus.specs.Wrapping.{serial}
 use Rattle.modbus.specs.Table.{
   TableRow,
   row-03,
@@ -68,15 +70,15 @@ sized row-41-0010 u o v x = (lit≤ tt, lit≤ tt)
 sized row-41-0020 u o v x = (lit≤ tt, lit≤ tt)
 
 -- what is written by the table is read as it was meant
-pub as-sent : (q : Request) → Fits q → readingVerdict (requestOf (sealed (bodyOfRequest q))) ≡ askedBy q
+pub as-sent : (q : Request) → Fits q → readingVerdict (serial .reads (sealed (bodyOfRequest q))) ≡ askedBy q
 as-sent q fits =
     let long = sized (q .row) (q .unit) (q .offset) (q .value) (q .other) in
     ap readingVerdict (unwrapped (bodyOfRequest q) (long .0) (long .1)) ∙ as-asked q fits
 
-pub sent-order : (s : List ℕ) (o : Order) → Sent s o → requestOf s ≡ Accepted o
+pub sent-order : (s : List ℕ) (o : Order) → Sent s o → serial .reads s ≡ Accepted o
 sent-order s o w =
-    one-reading (requestOf s) (Accepted o)
-    (ap (λ (l : List ℕ). readingVerdict (requestOf l)) (w .bytes) ∙ as-sent (w .q) (w .fits) ∙ sym (w .question))
+    one-reading (serial .reads s) (Accepted o)
+    (ap (λ (l : List ℕ). readingVerdict (serial .reads l)) (w .bytes) ∙ as-sent (w .q) (w .fits) ∙ sym (w .question))
 
 -- and nothing else is read as an order
 take-bytes : (n : ℕ) (s : List ℕ) → Bytes s → Bytes (take n s)
@@ -88,14 +90,14 @@ take-bytes (suc n) (x ∷ s) h (suc k) = take-bytes n s (λ j. h (suc j)) k
 passing : (s : List ℕ) → Passes (wireChecks s) → passesOf s ≡ true
 passing s (all short (all long (all passes rest))) = passes
 
-pub order-sent : (s : List ℕ) (o : Order) → Bytes s → requestOf s ≡ Accepted o → Sent s o
+pub order-sent : (s : List ℕ) (o : Order) → Bytes s → serial .reads s ≡ Accepted o → Sent s o
 order-sent s o h e =
     let a = accepted s o e in
     let r = asked (unsealed s) (take-bytes (length s - 2) s h) o (a .1) in
     record { q = r .q; fits = r .fits; bytes = sym (passes-sealed s (passing s (a .0))) ∙ ap sealed (r .body); question = r .question }
 
 -- every whole message becomes what its body does
-pub message : (s : List ℕ) → Bytes s → 4 ≤ length s → length s ≤ 256 → passesOf s ≡ true → Becomes (unsealed s) (readingVerdict (requestOf s))
+pub message : (s : List ℕ) → Bytes s → 4 ≤ length s → length s ≤ 256 → passesOf s ≡ true → Becomes (unsealed s) (readingVerdict (serial .reads s))
 unfolding requestOf
 message s h from upto p =
     subst (λ (r : Reading). Becomes (unsealed s) (readingVerdict r))

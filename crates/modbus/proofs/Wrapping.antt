@@ -23,6 +23,6 @@ serial-lawful = record {
 }
 
 -- every reply passes the test that messages have to pass: its checksum stands behind it, "low byte first"
-pub reply-passes : (r : Reply) → passesOf (bytesOf r) ≡ true
+pub reply-passes : (r : Reply) → passesOf (serial .writes r) ≡ true
 unfolding bytesOf
 reply-passes r = sealed-passes (bodyOf r)

@@ -1,0 +1,287 @@
+-- What the box puts on its lines and tells to a request, in the numbers of 01's table: from demand 3 for the box, and from what a message of bytes is read
+-- as (modbus/proofs/Sent).
+-- Assumes nothing.
+use Prim.Native.Nat.{ℕ, _*_, _/_, _%_, _<_}
+use mathlib.Core.Path.{_≡_, refl, sym, ap, _∙_, subst}
+use mathlib.Core.Logic.{_⊎_}
+use mathlib.Core.Bool.{true, false}
+use mathlib.Core.List.{List}
+use native.Mathlib.Omega.{arith}
+use lib.Dec.{lit<}
+use Rattle.word.proofs.Clash.{clash}
+use Rattle.word.specs.declared.Frame.{Frame}
+use Rattle.word.specs.Frame.{idOf, valueOf}
+use Rattle.word.specs.Fields.{BuiltFrom}
+use Rattle.word.proofs.Fields.{fields}
+use Rattle.crc.specs.Crc.{sealed}
+use Rattle.turns.specs.declared.Talker.the-variants.{Modbus}
+use Rattle.turns.specs.Events.{Notes, sent}
+use Rattle.turns.specs.Exchange.{Exchanges, Shows, LastShown, Own, Lacks}
+use Rattle.turns.specs.Exchange as exchange
+use Rattle.turns.specs.Promise.{View, UnderWay, OrderTold}
+use Rattle.turns.specs.Promise as promise
+use Rattle.modbus.specs.declared.Order.{Order}
+use Rattle.modbus.specs.declared.Form.the-variants as form
+use Rattle.modbus.specs.declared.QuestionType.the-variants.{ReadData}
+use Rattle.modbus.specs.declared.Reading.the-variants.{Accepted}
+use Rattle.modbus.specs.Mapping.{typeNumber, wordOf}
+use Rattle.modbus.specs.Numbers.{readingVerdict}
+use Rattle.modbus.specs.Outcomes.{lackingOf, busyOf}
+use Rattle.modbus.specs.Replied.{ReplyBodies, repliesTo}
+use Rattle.modbus.specs.Wire.{bodyOf, bytesOf}
+use Rattle.modbus.specs.Wrapping.{serial}
+use Rattle.modbus.specs.Table.{
+  TableRow,
+  row-03,
+  row-04,
+  row-06,
+  row-10,
+  row-17-read,
+  row-17-write-00,
+  row-17-write-02,
+  row-17-both-00,
+  row-17-both-01,
+  row-17-both-02,
+  row-41-0000,
+  row-41-0010,
+  row-41-0020,
+  Request,
+  Fits,
+  bodyOfRequest,
+  askedIn,
+  askedBy,
+}
+use Rattle.modbus.proofs.Verdicts.{reading, typed, reading-back}
+use Rattle.modbus.proofs.Questions.{word-says}
+use Rattle.modbus.proofs.Sent.{as-sent, order-sent}
+use Rattle.modbus.proofs.Answered.{replies, as-replied}
+use Rattle.modbus.proofs.Wrapping.{serial-lawful}
+use Rattle.promises.specs.Inputs.{Inputs, Gifts, Four, Brings}
+use Rattle.promises.specs.History.{given}
+use Rattle.promises.specs.Demand3.{AsksFor, RepliesAtOnce, askedOn, outOn, boxView}
+use Rattle.promises.specs.Spoken.{typeIn, valueIn, idIn, aloneIn, AsksStatus, outsOn, WordOf, plain, status}
+use Rattle.promises.specs.Spoken.{NoStatus, Waits, RequestTold, taken, lacking, busy, Bytewise, Speaks, Spoken}
+use Rattle.promises.proofs.Demand3.{demand3}
+
+-- ---- an order, by the request that asks it
+
+record Asks (o : Order) (row : TableRow) (u p v : ℕ) : Type 0 where
+  line : o .line ≡ u
+  type : typeNumber (o .question .t) ≡ typeIn row
+  id : o .question .id ≡ p % 256
+  value : o .question .value ≡ valueIn row v
+  alone : o .question .alone ≡ aloneIn row
+
+asks-in : (row : TableRow) (u p v : ℕ) (o : Order) → readingVerdict (Accepted o) ≡ askedIn row u p v → Asks o row u p v
+asks-in row-03 u p v o e = record { line = cc; type = cc; id = cc; value = cc; alone = cc }
+asks-in row-04 u p v o e = record { line = cc; type = cc; id = cc; value = cc; alone = cc }
+asks-in row-06 u p v o e = record { line = cc; type = cc; id = cc; value = cc; alone = cc }
+asks-in row-10 u p v o e = record { line = cc; type = cc; id = cc; value = cc; alone = cc }
+asks-in row-17-read u p v o e = record { line = cc; type = cc; id = cc; value = cc; alone = cc }
+asks-in row-17-write-00 u p v o e = record { line = cc; type = cc; id = cc; value = cc; alone = cc }
+asks-in row-17-write-02 u p v o e = record { line = cc; type = cc; id = cc; value = cc; alone = cc }
+asks-in row-17-both-00 u p v o e = record { line = cc; type = cc; id = cc; value = cc; alone = cc }
+asks-in row-17-both-01 u p v o e = record { line = cc; type = cc; id = cc; value = cc; alone = cc }
+asks-in row-17-both-02 u p v o e = record { line = cc; type = cc; id = cc; value = cc; alone = cc }
+asks-in row-41-0000 u p v o e = record { line = cc; type = cc; id = cc; value = cc; alone = cc }
+asks-in row-41-0010 u p v o e = record { line = cc; type = cc; id = cc; value = cc; alone = cc }
+asks-in row-41-0020 u p v o e = record { line = cc; type = cc; id = cc; value = cc; alone = cc }
+
+-- the numbers of a request are those of a frame word
+type-small : (row : TableRow) → typeIn row < 8
+type-small row-03 = lit< tt
+type-small row-04 = lit< tt
+type-small row-06 = lit< tt
+type-small row-10 = lit< tt
+type-small row-17-read = lit< tt
+type-small row-17-write-00 = lit< tt
+type-small row-17-write-02 = lit< tt
+type-small row-17-both-00 = lit< tt
+type-small row-17-both-01 = lit< tt
+type-small row-17-both-02 = lit< tt
+type-small row-41-0000 = lit< tt
+type-small row-41-0010 = lit< tt
+type-small row-41-0020 = lit< tt
+
+value-small : (row : TableRow) (v : ℕ) → v < 65536 → valueIn row v < 65536
+value-small row-03 v h = lit< tt
+value-small row-04 v h = lit< tt
+value-small row-06 v h = h
+value-small row-10 v h = h
+value-small row-17-read v h = lit< tt
+value-small row-17-write-00 v h = h
+value-small row-17-write-02 v h = h
+value-small row-17-both-00 v h = h
+value-small row-17-both-01 v h = h
+value-small row-17-both-02 v h = h
+value-small row-41-0000 v h = h
+value-small row-41-0010 v h = h
+value-small row-41-0020 v h = h
+
+-- the id that is read off a word that is built
+id-of-built : (t i v w : ℕ) → t < 8 → i < 256 → v < 65536 → BuiltFrom t i v w → idOf w ≡ i
+id-of-built t i v w ht hi hv b =
+    ap idOf (b .word)
+    ∙ fields (record { parity = b .parity; type = t; spare = 0; id = i; value = v })
+    (record { one-bit = b .one-bit; three-bits = ht; four-bits = lit< tt; a-byte = hi; two-bytes = hv }) .id
+
+module _ (r : Request) (fits : Fits r) (o : Order) (e : readingVerdict (Accepted o) ≡ askedBy r) where
+  numbers : Asks o (r .row) (r .unit) (r .offset) (r .value)
+  numbers = asks-in (r .row) (r .unit) (r .offset) (r .value) o e
+
+  small : valueIn (r .row) (r .value) < 65536
+  small = value-small (r .row) (r .value) (fits .value)
+
+  -- the question's own word is built from the row's numbers, and its id is the request's
+  built : BuiltFrom (typeIn (r .row)) (idIn r) (valueIn (r .row) (r .value)) (wordOf (o .question))
+  built =
+      rw (← (numbers .type), ← (numbers .id), ← (numbers .value))
+      (word-says (o .question) (omega (arith, numbers .id)) (omega (arith, numbers .value, small)))
+
+  id-is : idOf (wordOf (o .question)) ≡ idIn r
+  id-is =
+      id-of-built (typeIn (r .row)) (idIn r) (valueIn (r .row) (r .value)) (wordOf (o .question)) (type-small (r .row)) (omega arith) small built
+
+  -- a status question is one by the table
+  exchanges : AsksStatus r → Exchanges (askedOn o)
+  exchanges a = record { alone = numbers .alone ∙ a .alone; named = subst (λ (i : ℕ). (i ≡ 0) ⊎ (i ≡ 70)) (sym id-is) (a .named) }
+
+  asks-status : Exchanges (askedOn o) → AsksStatus r
+  asks-status x = record { alone = sym (numbers .alone) ∙ x .alone; named = subst (λ (i : ℕ). (i ≡ 0) ⊎ (i ≡ 70)) id-is (x .named) }
+
+  -- what is said of the order's line and id is said of the request's
+  over : (s : Gifts) (P : Notes → ℕ → Type 0) → P (outOn s o) (idOf (wordOf (o .question))) → P (outsOn s (r .unit)) (idIn r)
+  over s P x = subst (λ (k : ℕ). P (outsOn s k) (idIn r)) (numbers .line) (subst (λ (i : ℕ). P (outOn s o) i) id-is x)
+
+  back : (s : Gifts) (P : Notes → ℕ → Type 0) → P (outsOn s (r .unit)) (idIn r) → P (outOn s o) (idOf (wordOf (o .question)))
+  back s P x = subst (λ (i : ℕ). P (outOn s o) i) (sym id-is) (subst (λ (k : ℕ). P (outsOn s k) (idIn r)) (sym (numbers .line)) x)
+
+  word-of : (s : Gifts) (j : ℕ) (f : Frame) → Own (outOn s o) j (askedOn o) f → WordOf s j r (f .word)
+  word-of s j f (exchange.plain off is) =
+      plain (λ a. off (exchanges a))
+      (subst (λ (w : ℕ). BuiltFrom (typeIn (r .row)) (idIn r) (valueIn (r .row) (r .value)) w) (sym is) built)
+  word-of s j f (exchange.status x g l b) =
+      status (asks-status x) g (over s (λ (t : Notes) (i : ℕ). LastShown t i j g) l)
+      (subst (λ (i : ℕ). BuiltFrom 0 i (valueOf (g .word) / 256 * 256) (f .word)) id-is b)
+
+  no-status : (s : Gifts) (k : ℕ) → Lacks (outOn s o) k (askedOn o) → NoStatus s k r
+  no-status s k l = record {
+    asks = asks-status (l .exchange);
+    never = λ m f lt sh. l .never m f lt (back s (λ (t : Notes) (i : ℕ). Shows t i m f) sh);
+  }
+
+  lacks : (s : Gifts) (k : ℕ) → NoStatus s k r → Lacks (outOn s o) k (askedOn o)
+  lacks s k n = record {
+    exchange = exchanges (n .asks);
+    never = λ m f lt sh. n .never m f lt (over s (λ (t : Notes) (i : ℕ). Shows t i m f) sh);
+  }
+
+-- ---- and the order that a request asks
+
+order-in : (row : TableRow) (u p v : ℕ) → (o : Order) × (reading (askedIn row u p v) ≡ Accepted o)
+unfolding reading typed
+order-in row-03 u p v = (_, refl)
+order-in row-04 u p v = (_, refl)
+order-in row-06 u p v = (_, refl)
+order-in row-10 u p v = (_, refl)
+order-in row-17-read u p v = (_, refl)
+order-in row-17-write-00 u p v = (_, refl)
+order-in row-17-write-02 u p v = (_, refl)
+order-in row-17-both-00 u p v = (_, refl)
+order-in row-17-both-01 u p v = (_, refl)
+order-in row-17-both-02 u p v = (_, refl)
+order-in row-41-0000 u p v = (_, refl)
+order-in row-41-0010 u p v = (_, refl)
+order-in row-41-0020 u p v = (_, refl)
+
+record Asked (r : Request) : Type 0 where
+  o : Order
+  reads : serial .reads (sealed (bodyOfRequest r)) ≡ Accepted o
+  verdict : readingVerdict (Accepted o) ≡ askedBy r
+
+asked-by : (r : Request) → Fits r → Asked r
+asked-by r fits =
+    let x = order-in (r .row) (r .unit) (r .offset) (r .value) in
+    let reads = sym (reading-back (serial .reads (sealed (bodyOfRequest r)))) ∙ ap reading (as-sent r fits) ∙ x .1 in
+    record { o = x .0; reads = reads; verdict = sym (ap readingVerdict reads) ∙ as-sent r fits }
+
+-- some order for line k
+abbrev on : ℕ → Order
+on k = record { line = k; question = record { t = ReadData; id = 0; value = 0; alone = false }; function = 0; offset = 0; form = form.Value }
+
+module _ (h : Inputs) (bytewise : Bytewise h) where
+  abbrev s : Gifts
+  s = given serial h
+
+  abbrev H : View Order
+  H = boxView serial h s
+
+  -- an order under way is a request that waits, and the other way round
+  record Under (n : ℕ) (u : UnderWay H n) : Type 0 where
+    waits : Waits h s n
+    verdict : readingVerdict (Accepted (u .w)) ≡ askedBy (waits .r)
+
+  under : (n : ℕ) (u : UnderWay H n) → Under n u
+  under n u =
+      let a = u .accepted .asked in
+      let sent = order-sent (a .bytes) (u .w) (bytewise (u .i) (a .bytes) (a .brings .room) (a .brings .is)) (a .reads) in
+      record {
+        waits = record {
+          r = sent .q;
+          i = u .i;
+          before = u .before;
+          fits = sent .fits;
+          came = subst (λ (l : List ℕ). Brings l (h (u .i))) (sent .bytes) (a .brings);
+          taken = u .accepted .taken;
+          waiting = λ m bytes wait lo hi t. u .waiting m lo hi (bytes, wait, t);
+        };
+        verdict = sent .question;
+      }
+
+  way : (n : ℕ) → Waits h s n → UnderWay H n
+  way n w =
+      let a = asked-by (w .r) (w .fits) in
+      record {
+        i = w .i;
+        w = a .o;
+        before = w .before;
+        accepted = record { asked = record { bytes = sealed (bodyOfRequest (w .r)); brings = w .came; reads = a .reads }; taken = w .taken };
+        waiting = λ m lo hi e. w .waiting m (e .0) (e .1) lo hi (e .2);
+      }
+
+  asked : (j k : ℕ) (f : Frame) → Four k → s j .out k ≡ sent Modbus f → Speaks h s j k f
+  asked j k f mine out =
+      let a = demand3 serial-lawful h .asked (on k) j f (record { unit = mine; out = out }) in
+      let u = under j (a .order) in
+      let r = u .waits .r in
+      record {
+        request = u .waits;
+        unit = sym (numbers r (u .waits .fits) (a .order .w) (u .verdict) .line) ∙ sym (a .here);
+        word = word-of r (u .waits .fits) (a .order .w) (u .verdict) s j f (a .own);
+      }
+
+  module _ (k : ℕ) (r : Request) (fits : Fits r) (x : Asked r) where
+    -- its replies at once, byte by byte
+    bodies : replies (x .o) 0 ≡ repliesTo r 0
+    bodies = as-replied r (x .o) 0 (x .verdict)
+
+    bytes : (part : ReplyBodies → List ℕ) (b : List ℕ) → part (replies (x .o) 0) ≡ b → RepliesAtOnce (s k) (sealed b) →
+        RepliesAtOnce (s k) (sealed (part (repliesTo r 0)))
+    bytes part b is rep = subst (λ (l : List ℕ). RepliesAtOnce (s k) (sealed l)) (sym is ∙ ap part bodies) rep
+
+    told : OrderTold H k (x .o) → RequestTold h s k r
+    unfolding bytesOf
+    told (promise.taken t has none) = taken t (λ n. has (lacks r fits (x .o) (x .verdict) s k n)) (λ w. none (way k w))
+    told (promise.lacking rep l) =
+        lacking (bytes (λ (b : ReplyBodies). b .lacking) (bodyOf (lackingOf (x .o))) refl rep) (no-status r fits (x .o) (x .verdict) s k l)
+    told (promise.busy rep has u) =
+        busy (bytes (λ (b : ReplyBodies). b .busy) (bodyOf (busyOf (x .o))) refl rep) (λ n. has (lacks r fits (x .o) (x .verdict) s k n)) (under k u .waits)
+
+  pub spoken : Spoken h s
+  spoken = record {
+    asked = asked;
+    told = λ k r fits came.
+        let x = asked-by r fits in
+        told k r fits x
+        (demand3 serial-lawful h .ready k (x .o) (record { bytes = sealed (bodyOfRequest r); brings = came; reads = x .reads }));
+  }
