@@ -1,7 +1,7 @@
--- What the box puts on its lines and tells to a request, in the numbers of 01's table: from demand 3 for the box, and from what a message of bytes is read
+-- What the box puts on its lines and replies to a request, in the numbers of 01's table: from demand 3 for the box, and from what a message of bytes is read
 -- as (modbus/proofs/Sent).
 -- Assumes nothing.
-use Prim.Native.Nat.{ℕ, _*_, _/_, _%_, _<_}
+use Prim.Native.Nat.{ℕ, zero, suc, _*_, _/_, _%_, _≤_, _<_}
 use mathlib.Core.Path.{_≡_, refl, sym, ap, _∙_, subst}
 use mathlib.Core.Logic.{_⊎_}
 use mathlib.Core.Bool.{true, false}
@@ -10,15 +10,17 @@ use native.Mathlib.Omega.{arith}
 use lib.Dec.{lit<}
 use Rattle.word.proofs.Clash.{clash}
 use Rattle.word.specs.declared.Frame.{Frame}
-use Rattle.word.specs.Frame.{idOf, valueOf}
+use Rattle.word.specs.Frame.{typeOf, idOf, valueOf, matchesOf}
 use Rattle.word.specs.Fields.{BuiltFrom}
 use Rattle.word.proofs.Fields.{fields}
+use Rattle.word.proofs.Match.{match-type}
 use Rattle.crc.specs.Crc.{sealed}
 use Rattle.turns.specs.declared.Talker.the-variants.{Modbus}
 use Rattle.turns.specs.Events.{Notes, sent}
 use Rattle.turns.specs.Exchange.{Exchanges, Shows, LastShown, Own, Lacks}
 use Rattle.turns.specs.Exchange as exchange
-use Rattle.turns.specs.Promise.{View, UnderWay, OrderTold}
+use Rattle.turns.specs.Promise.{View, UnderWay, OrderTold, Ending, Served}
+use Rattle.turns.specs.Promise.{Accepted as Accepts}
 use Rattle.turns.specs.Promise as promise
 use Rattle.modbus.specs.declared.Order.{Order}
 use Rattle.modbus.specs.declared.Form.the-variants as form
@@ -26,7 +28,8 @@ use Rattle.modbus.specs.declared.QuestionType.the-variants.{ReadData}
 use Rattle.modbus.specs.declared.Reading.the-variants.{Accepted}
 use Rattle.modbus.specs.Mapping.{typeNumber, wordOf}
 use Rattle.modbus.specs.Numbers.{readingVerdict}
-use Rattle.modbus.specs.Outcomes.{lackingOf, busyOf}
+use Rattle.modbus.specs.declared.Outcome.the-variants.{Answer, NoAnswer}
+use Rattle.modbus.specs.Outcomes.{answerOf}
 use Rattle.modbus.specs.Replied.{ReplyBodies, repliesTo}
 use Rattle.modbus.specs.Wire.{bodyOf, bytesOf}
 use Rattle.modbus.specs.Wrapping.{serial}
@@ -56,11 +59,12 @@ use Rattle.modbus.proofs.Questions.{word-says}
 use Rattle.modbus.proofs.Sent.{as-sent, order-sent}
 use Rattle.modbus.proofs.Answered.{replies, as-replied}
 use Rattle.modbus.proofs.Wrapping.{serial-lawful}
-use Rattle.promises.specs.Inputs.{Inputs, Gifts, Four, Brings}
+use Rattle.promises.specs.Inputs.{Inputs, Gifts, Four, Boils, Brings, past}
 use Rattle.promises.specs.History.{given}
-use Rattle.promises.specs.Demand3.{AsksFor, RepliesAtOnce, askedOn, outOn, boxView}
+use Rattle.promises.specs.Demand3.{AsksFor, RepliesAtOnce, Gives, askedOn, outOn, boxView}
+use Rattle.promises.specs.Notes.{outcome}
 use Rattle.promises.specs.Spoken.{typeIn, valueIn, idIn, aloneIn, AsksStatus, outsOn, WordOf, plain, status}
-use Rattle.promises.specs.Spoken.{NoStatus, Waits, RequestTold, taken, lacking, busy, Bytewise, Speaks, Spoken}
+use Rattle.promises.specs.Spoken.{NoStatus, Waits, RequestTold, taken, lacking, busy, replyTo, Ended, answered, silent, Bytewise, Speaks, Spoken}
 use Rattle.promises.proofs.Demand3.{demand3}
 
 -- ---- an order, by the request that asks it
@@ -205,6 +209,18 @@ asked-by r fits =
     let reads = sym (reading-back (serial .reads (sealed (bodyOfRequest r)))) ∙ ap reading (as-sent r fits) ∙ x .1 in
     record { o = x .0; reads = reads; verdict = sym (ap readingVerdict reads) ∙ as-sent r fits }
 
+-- what is replied to a boiler frame of type 4 to 7
+by-type : (o : Order) (v t : ℕ) → 4 ≤ t → t < 8 → replyTo (replies o v) t ≡ bodyOf (answerOf o (Answer t v))
+by-type o v zero lo hi = absurd (omega arith)
+by-type o v (suc zero) lo hi = absurd (omega arith)
+by-type o v (suc (suc zero)) lo hi = absurd (omega arith)
+by-type o v (suc (suc (suc zero))) lo hi = absurd (omega arith)
+by-type o v (suc (suc (suc (suc zero)))) lo hi = refl
+by-type o v (suc (suc (suc (suc (suc zero))))) lo hi = refl
+by-type o v (suc (suc (suc (suc (suc (suc zero)))))) lo hi = refl
+by-type o v (suc (suc (suc (suc (suc (suc (suc zero))))))) lo hi = refl
+by-type o v (suc (suc (suc (suc (suc (suc (suc (suc t)))))))) lo hi = absurd (omega arith)
+
 -- some order for line k
 abbrev on : ℕ → Order
 on k = record { line = k; question = record { t = ReadData; id = 0; value = 0; alone = false }; function = 0; offset = 0; form = form.Value }
@@ -262,20 +278,48 @@ module _ (h : Inputs) (bytewise : Bytewise h) where
 
   module _ (k : ℕ) (r : Request) (fits : Fits r) (x : Asked r) where
     -- its replies at once, byte by byte
-    bodies : replies (x .o) 0 ≡ repliesTo r 0
-    bodies = as-replied r (x .o) 0 (x .verdict)
-
-    bytes : (part : ReplyBodies → List ℕ) (b : List ℕ) → part (replies (x .o) 0) ≡ b → RepliesAtOnce (s k) (sealed b) →
-        RepliesAtOnce (s k) (sealed (part (repliesTo r 0)))
-    bytes part b is rep = subst (λ (l : List ℕ). RepliesAtOnce (s k) (sealed l)) (sym is ∙ ap part bodies) rep
+    bytes : (part : ReplyBodies → List ℕ) → RepliesAtOnce (s k) (sealed (part (replies (x .o) 0))) → RepliesAtOnce (s k) (sealed (part (repliesTo r 0)))
+    bytes part rep = subst (λ (b : ReplyBodies). RepliesAtOnce (s k) (sealed (part b))) (as-replied r (x .o) 0 (x .verdict)) rep
 
     told : OrderTold H k (x .o) → RequestTold h s k r
     unfolding bytesOf
     told (promise.taken t has none) = taken t (λ n. has (lacks r fits (x .o) (x .verdict) s k n)) (λ w. none (way k w))
     told (promise.lacking rep l) =
-        lacking (bytes (λ (b : ReplyBodies). b .lacking) (bodyOf (lackingOf (x .o))) refl rep) (no-status r fits (x .o) (x .verdict) s k l)
+        lacking (bytes (λ (b : ReplyBodies). b .lacking) rep) (no-status r fits (x .o) (x .verdict) s k l)
     told (promise.busy rep has u) =
-        busy (bytes (λ (b : ReplyBodies). b .busy) (bodyOf (busyOf (x .o))) refl rep) (λ n. has (lacks r fits (x .o) (x .verdict) s k n)) (under k u .waits)
+        busy (bytes (λ (b : ReplyBodies). b .busy) rep) (λ n. has (lacks r fits (x .o) (x .verdict) s k n)) (under k u .waits)
+
+  -- an outcome's reply, byte by byte
+  module _ (k i : ℕ) (o : Order) (lt : i < k) (acc : Accepts H i o) (v : Served 1950 H i o k) where
+    abbrev now : UnderWay H k
+    now = record { i = i; w = o; before = lt; accepted = acc; waiting = v .only }
+
+    u : Under k now
+    u = under k now
+
+    written : (b : Frame) → matchesOf (v .q .word) (b .word) ≡ true →
+        bodyOf (answerOf o (Answer (typeOf (b .word)) (valueOf (b .word)))) ≡ replyTo (repliesTo (u .waits .r) (valueOf (b .word))) (typeOf (b .word))
+    unfolding typeOf
+    written b m =
+        sym (by-type o (valueOf (b .word)) (typeOf (b .word)) (match-type (v .q .word) (b .word) m) (omega arith))
+        ∙ ap (λ (x : ReplyBodies). replyTo x (typeOf (b .word))) (as-replied (u .waits .r) o (valueOf (b .word)) (u .verdict))
+
+    ends : (n : ℕ) → n ≡ past h i (suc k) → Ending H o (v .j) (v .q) k n → Ended h s k
+    unfolding bytesOf u under
+    ends n is (promise.answered b an g) =
+        answered (u .waits) b
+        (subst (λ (l : ℕ). Boils l b (h k)) (numbers (u .waits .r) (u .waits .fits) o (u .verdict) .line) (an .frame))
+        (subst (λ (w : ℕ). Gives (s k) (sealed (replyTo (repliesTo (u .waits .r) (valueOf (b .word))) (typeOf (b .word)))) w) is
+        (subst (λ (l : List ℕ). Gives (s k) (sealed l) n) (written b (an .matches)) g))
+    ends n is (promise.silent t e g) =
+        silent (u .waits) t
+        (subst (λ (w : ℕ). Gives (s k) (sealed (repliesTo (u .waits .r) 0 .none)) w) is
+        (subst (λ (x : ReplyBodies). Gives (s k) (sealed (x .none)) n) (as-replied (u .waits .r) o 0 (u .verdict)) g))
+
+  ended : (k bytes wait : ℕ) → s k .told ≡ outcome bytes wait → Ended h s k
+  ended k bytes wait e =
+      let d = demand3 serial-lawful h .earned k (bytes, wait, e) in
+      ends k (d .0) (d .1) (d .2) (d .3) (d .4) (past h (d .0) (suc k)) refl (d .4 .ending)
 
   pub spoken : Spoken h s
   spoken = record {
@@ -284,4 +328,5 @@ module _ (h : Inputs) (bytewise : Bytewise h) where
         let x = asked-by r fits in
         told k r fits x
         (demand3 serial-lawful h .ready k (x .o) (record { bytes = sealed (bodyOfRequest r); brings = came; reads = x .reads }));
+    ended = ended;
   }

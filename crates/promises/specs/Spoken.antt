@@ -1,13 +1,14 @@
--- What the box puts on its lines and tells to a request, in the numbers of 01's table alone (modbus, Table and Replied), in the serial wrapping: bytes in,
--- words out, where the inputs h come and s is given to each. No order, no question and no reading of a message is named here.
+-- What the box puts on its lines and replies to a request, in the numbers of 01's table alone (modbus, Table and Replied), in the serial wrapping: bytes
+-- in, words and bytes out, where the inputs h come and s is given to each. No order, no question and no reading of a message is named here.
 -- Nothing here knows how the box works. Assumes nothing: these are definitions.
-use Prim.Native.Nat.{ℕ, _*_, _/_, _%_, _<_}
+use Prim.Native.Nat.{ℕ, suc, _*_, _/_, _%_, _<_}
 use mathlib.Core.Path.{_≡_}
 use mathlib.Core.Logic.{_⊎_}
-use mathlib.Core.Bool.{Bool, true, false}
+use mathlib.Core.Bool.{Bool, true, false, cond}
 use mathlib.Core.List.{List}
+use lib.Dec.{eqb}
 use Rattle.word.specs.declared.Frame.{Frame}
-use Rattle.word.specs.Frame.{valueOf}
+use Rattle.word.specs.Frame.{typeOf, valueOf}
 use Rattle.word.specs.Fields.{BuiltFrom}
 use Rattle.crc.specs.Crc.{sealed}
 use Rattle.turns.specs.declared.Talker.the-variants.{Modbus}
@@ -32,11 +33,11 @@ use Rattle.modbus.specs.Table.{
   Fits,
   bodyOfRequest,
 }
-use Rattle.modbus.specs.Replied.{repliesTo}
+use Rattle.modbus.specs.Replied.{ReplyBodies, repliesTo}
 use Rattle.modbus.specs.Becomes.{Bytes}
 use Rattle.promises.specs.Notes.{accepted, outcome}
-use Rattle.promises.specs.Inputs.{message, Inputs, Gifts, Four, Brings}
-use Rattle.promises.specs.Demand3.{RepliesAtOnce}
+use Rattle.promises.specs.Inputs.{message, Inputs, Gifts, Four, Ticks, Boils, Brings, past}
+use Rattle.promises.specs.Demand3.{RepliesAtOnce, Gives}
 
 -- "Question on the line": its type, 0 READ-DATA, 1 WRITE-DATA, 2 INVALID-DATA; and its value, which the three rows of a read alone don't have
 abbrev pub typeIn : TableRow → ℕ
@@ -124,6 +125,17 @@ pub data RequestTold (h : Inputs) (s : Gifts) (k : ℕ) (r : Request) : Type 0 w
   lacking : RepliesAtOnce (s k) (sealed (repliesTo r 0 .lacking)) → NoStatus s k r → RequestTold h s k r
   busy : RepliesAtOnce (s k) (sealed (repliesTo r 0 .busy)) → (NoStatus s k r → ⊥) → Waits h s k → RequestTold h s k r
 
+-- the reply to a boiler frame of type t, 4 to 7, of those that the table prints
+abbrev pub replyTo : ReplyBodies → ℕ → List ℕ
+replyTo b t = cond (eqb t 4) (b .four) (cond (eqb t 5) (b .five) (cond (eqb t 6) (b .six) (b .seven)))
+
+-- the outcome that is told to input k is that of the request that waits: the table's reply to a frame of its boiler's, or to no answer, with its
+-- checksum; and the ticks since it came
+pub data Ended (h : Inputs) (s : Gifts) (k : ℕ) : Type 0 where
+  answered : (w : Waits h s k) (b : Frame) → Boils (w .r .unit) b (h k) →
+      Gives (s k) (sealed (replyTo (repliesTo (w .r) (valueOf (b .word))) (typeOf (b .word)))) (past h (w .i) (suc k)) → Ended h s k
+  silent : (w : Waits h s k) → Ticks (h k) → Gives (s k) (sealed (repliesTo (w .r) 0 .none)) (past h (w .i) (suc k)) → Ended h s k
+
 -- each message is of bytes
 abbrev pub Bytewise : Inputs → Type 0
 Bytewise h = (n : ℕ) (b : List ℕ) (room : ℕ) → h n ≡ message b room → Bytes b
@@ -137,5 +149,6 @@ pub record Speaks (h : Inputs) (s : Gifts) (j k : ℕ) (f : Frame) : Type 0 wher
 pub record Spoken (h : Inputs) (s : Gifts) : Type 0 where
   -- whatever goes out for Modbus, on whichever line, is the word of a request for that unit that was accepted and has no outcome
   pub asked : (j k : ℕ) (f : Frame) → Four k → s j .out k ≡ sent Modbus f → Speaks h s j k f
-  -- and each request is told so
+  -- what each request is told, and what each outcome writes
   pub told : (k : ℕ) (r : Request) → Fits r → Brings (sealed (bodyOfRequest r)) (h k) → RequestTold h s k r
+  pub ended : (k bytes wait : ℕ) → s k .told ≡ outcome bytes wait → Ended h s k
