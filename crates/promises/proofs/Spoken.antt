@@ -63,8 +63,8 @@ use Rattle.promises.specs.Inputs.{Inputs, Gifts, Four, Boils, Brings, pa
 use Rattle.promises.specs.History.{given}
 use Rattle.promises.specs.Demand3.{AsksFor, RepliesAtOnce, Gives, askedOn, outOn, boxView}
 use Rattle.promises.specs.Notes.{outcome}
-use Rattle.promises.specs.Spoken.{typeIn, valueIn, idIn, aloneIn, AsksStatus, outsOn, WordOf, plain, status}
-use Rattle.promises.specs.Spoken.{NoStatus, Waits, RequestTold, taken, lacking, busy, replyTo, Ended, answered, silent, Bytewise, Speaks, Spoken}
+use Rattle.promises.specs.Spoken.{typeIn, valueIn, idIn, aloneIn, AsksStatus, outsOn, RequestWord, plain, status}
+use Rattle.promises.specs.Spoken.{NoStatus, RequestWaits, RequestTold, taken, lacking, busy, replyTo, Ended, answered, silent, Bytewise, Speaks, Spoken}
 use Rattle.promises.proofs.Demand3.{demand3}
 
 -- ---- an order, by the request that asks it
@@ -160,7 +160,7 @@ module _ (r : Request) (fits : Fits r) (o : Order) (e : readingVerdict (Accepted
   back : (s : Gifts) (P : Notes → ℕ → Type 0) → P (outsOn s (r .unit)) (idIn r) → P (outOn s o) (idOf (wordOf (o .question)))
   back s P x = subst (λ (i : ℕ). P (outOn s o) i) (sym id-is) (subst (λ (k : ℕ). P (outsOn s k) (idIn r)) (sym (numbers .line)) x)
 
-  word-of : (s : Gifts) (j : ℕ) (f : Frame) → Own (outOn s o) j (askedOn o) f → WordOf s j r (f .word)
+  word-of : (s : Gifts) (j : ℕ) (f : Frame) → Own (outOn s o) j (askedOn o) f → RequestWord s j r (f .word)
   word-of s j f (exchange.plain off is) =
       plain (λ a. off (exchanges a))
       (subst (λ (w : ℕ). BuiltFrom (typeIn (r .row)) (idIn r) (valueIn (r .row) (r .value)) w) (sym is) built)
@@ -234,7 +234,7 @@ module _ (h : Inputs) (bytewise : Bytewise h) where
 
   -- an order under way is a request that waits, and the other way round
   record Under (n : ℕ) (u : UnderWay H n) : Type 0 where
-    waits : Waits h s n
+    waits : RequestWaits h s n
     verdict : readingVerdict (Accepted (u .w)) ≡ askedBy (waits .r)
 
   under : (n : ℕ) (u : UnderWay H n) → Under n u
@@ -254,7 +254,7 @@ module _ (h : Inputs) (bytewise : Bytewise h) where
         verdict = sent .question;
       }
 
-  way : (n : ℕ) → Waits h s n → UnderWay H n
+  way : (n : ℕ) → RequestWaits h s n → UnderWay H n
   way n w =
       let a = asked-by (w .r) (w .fits) in
       record {

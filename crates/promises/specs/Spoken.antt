@@ -100,9 +100,9 @@ outsOn s k n = s n .out k
 
 -- w is the word of the request r, when it goes out at input j: its own type, id and value; or READ-DATA with "the high byte .. of the last READ-DATA with
 -- this id that went out for the line's thermostat since fresh, .. low byte 0"
-pub data WordOf (s : Gifts) (j : ℕ) (r : Request) (w : ℕ) : Type 0 where
-  plain : (AsksStatus r → ⊥) → BuiltFrom (typeIn (r .row)) (idIn r) (valueIn (r .row) (r .value)) w → WordOf s j r w
-  status : AsksStatus r → (f : Frame) → LastShown (outsOn s (r .unit)) (idIn r) j f → BuiltFrom 0 (idIn r) (valueOf (f .word) / 256 * 256) w → WordOf s j r w
+pub data RequestWord (s : Gifts) (j : ℕ) (r : Request) (w : ℕ) : Type 0 where
+  plain : (AsksStatus r → ⊥) → BuiltFrom (typeIn (r .row)) (idIn r) (valueIn (r .row) (r .value)) w → RequestWord s j r w
+  status : AsksStatus r → (f : Frame) → LastShown (outsOn s (r .unit)) (idIn r) j f → BuiltFrom 0 (idIn r) (valueOf (f .word) / 256 * 256) w → RequestWord s j r w
 
 -- "no such frame went out" before input k
 pub record NoStatus (s : Gifts) (k : ℕ) (r : Request) : Type 0 where
@@ -110,7 +110,7 @@ pub record NoStatus (s : Gifts) (k : ℕ) (r : Request) : Type 0 where
   pub never : (m : ℕ) (f : Frame) → m < k → Shows (outsOn s (r .unit)) (idIn r) m f → ⊥
 
 -- the request r came as input i, was accepted, and has no outcome before input n
-pub record Waits (h : Inputs) (s : Gifts) (n : ℕ) : Type 0 where
+pub record RequestWaits (h : Inputs) (s : Gifts) (n : ℕ) : Type 0 where
   pub r : Request
   pub i : ℕ
   pub before : i < n
@@ -121,9 +121,9 @@ pub record Waits (h : Inputs) (s : Gifts) (n : ℕ) : Type 0 where
 
 -- what the message of r is told as input k: it is accepted; or "exception 04 at once where no such frame went out, .. before 06"; or 06
 pub data RequestTold (h : Inputs) (s : Gifts) (k : ℕ) (r : Request) : Type 0 where
-  taken : s k .told ≡ accepted → (NoStatus s k r → ⊥) → (Waits h s k → ⊥) → RequestTold h s k r
+  taken : s k .told ≡ accepted → (NoStatus s k r → ⊥) → (RequestWaits h s k → ⊥) → RequestTold h s k r
   lacking : RepliesAtOnce (s k) (sealed (repliesTo r 0 .lacking)) → NoStatus s k r → RequestTold h s k r
-  busy : RepliesAtOnce (s k) (sealed (repliesTo r 0 .busy)) → (NoStatus s k r → ⊥) → Waits h s k → RequestTold h s k r
+  busy : RepliesAtOnce (s k) (sealed (repliesTo r 0 .busy)) → (NoStatus s k r → ⊥) → RequestWaits h s k → RequestTold h s k r
 
 -- the reply to a boiler frame of type t, 4 to 7, of those that the table prints
 abbrev pub replyTo : ReplyBodies → ℕ → List ℕ
@@ -132,9 +132,9 @@ replyTo b t = cond (eqb t 4) (b .four) (cond (eqb t 5) (b .five) (cond (eqb t 6)
 -- the outcome that is told to input k is that of the request that waits: the table's reply to a frame of its boiler's, or to no answer, with its
 -- checksum; and the ticks since it came
 pub data Ended (h : Inputs) (s : Gifts) (k : ℕ) : Type 0 where
-  answered : (w : Waits h s k) (b : Frame) → Boils (w .r .unit) b (h k) →
+  answered : (w : RequestWaits h s k) (b : Frame) → Boils (w .r .unit) b (h k) →
       Gives (s k) (sealed (replyTo (repliesTo (w .r) (valueOf (b .word))) (typeOf (b .word)))) (past h (w .i) (suc k)) → Ended h s k
-  silent : (w : Waits h s k) → Ticks (h k) → Gives (s k) (sealed (repliesTo (w .r) 0 .none)) (past h (w .i) (suc k)) → Ended h s k
+  silent : (w : RequestWaits h s k) → Ticks (h k) → Gives (s k) (sealed (repliesTo (w .r) 0 .none)) (past h (w .i) (suc k)) → Ended h s k
 
 -- each message is of bytes
 abbrev pub Bytewise : Inputs → Type 0
@@ -142,9 +142,9 @@ Bytewise h = (n : ℕ) (b : List ℕ) (room : ℕ) → h n ≡ message b room �
 
 -- what goes out for Modbus on line k at input j
 pub record Speaks (h : Inputs) (s : Gifts) (j k : ℕ) (f : Frame) : Type 0 where
-  pub request : Waits h s j
+  pub request : RequestWaits h s j
   pub unit : request .r .unit ≡ k
-  pub word : WordOf s j (request .r) (f .word)
+  pub word : RequestWord s j (request .r) (f .word)
 
 pub record Spoken (h : Inputs) (s : Gifts) : Type 0 where
   -- whatever goes out for Modbus, on whichever line, is the word of a request for that unit that was accepted and has no outcome
