@@ -8,7 +8,7 @@ ghost use mathlib.Core.Bool.{Bool·beq};
 ghost use Prim.Native.Nat.{_+_, _<_};
 ghost use Rattle.reader.specs.Reads.{readerOf, stepIs};
 ghost use Rattle.samples.specs.declared.Phase.the-variants.{Bits};
-ghost use Rattle.samples.specs.Reading.{freshOf, goesOn, gives, waitedOf, startOf, pastEdge, fartherOf, bitOf, middleOf, nextOf, stepOf};
+ghost use Rattle.samples.specs.Reading.{freshOf, goesOn, gives, waitedOf, startOf, pastEdge, fartherOf, bitOf, withBit, middleOf, nextOf, stepOf};
 
 pub struct Reader {
     pub phase: Phase,
@@ -120,16 +120,16 @@ fn started(before: u8, active: bool) -> Step
     if distance < Reader::START_FROM {
         return answered(Answer::Refused(1));
     }
-    past_edge(1, 0, false)
+    past_edge(1, Frame { word: 0 }, false)
 }
 
 // Just at a middle edge: the next distance counts from here, so that errors don't add up.
-fn past_edge(edges: u8, word: u32, active: bool) -> Step
-    ensures { λ r. ⌜ stepIs r ≡ goesOn (Bits (pastEdge edges word active)) ⌝ }
+fn past_edge(edges: u8, frame: Frame, active: bool) -> Step
+    ensures { λ r. ⌜ stepIs r ≡ goesOn (Bits (pastEdge edges frame active)) ⌝ }
 {
     still(Phase::Bits(Middle {
         edges: edges,
-        word: word,
+        frame: frame,
         distance: 0,
         active: active,
         other: false,
@@ -140,9 +140,10 @@ fn past_edge(edges: u8, word: u32, active: bool) -> Step
 fn farther(m: Middle, distance: u8, active: bool, other: bool) -> Step
     ensures { λ r. ⌜ stepIs r ≡ goesOn (Bits (fartherOf m distance active other)) ⌝ }
 {
+    let frame = m.frame;
     still(Phase::Bits(Middle {
         edges: m.edges,
-        word: m.word,
+        frame: frame,
         distance: distance,
         active: active,
         other: other,
@@ -192,16 +193,25 @@ fn bit_of(active: bool) -> u32
     if active { 0 } else { 1 }
 }
 
+fn with_bit(f: Frame, active: bool) -> Frame
+    ensures { λ r. ⌜ r ≡ withBit f active ⌝ }
+{
+    let bit = bit_of(active);
+    Frame {
+        word: f.word % 0x8000_0000 * 2 + bit,
+    }
+}
+
 // A middle edge to the level `active`. The 34th ends the frame; an earlier one is the word's next bit, below those before it.
 fn at_middle(m: Middle, active: bool) -> Step
     ensures { λ r. ⌜ stepIs r ≡ middleOf m active ⌝ }
 {
+    let frame = m.frame;
     if m.edges >= Reader::EDGES - 1 {
         if active {
             return answered(Answer::Refused(3));
         }
-        return answered(Answer::Frame(Frame { word: m.word }));
+        return answered(Answer::Frame(frame));
     }
-    let bit = bit_of(active);
-    past_edge(m.edges + 1, m.word % 0x8000_0000 * 2 + bit, active)
+    past_edge(m.edges + 1, with_bit(frame, active), active)
 }

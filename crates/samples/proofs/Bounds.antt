@@ -19,7 +19,7 @@ use Rattle.samples.proofs.Cases.{a-sample, bad-sample}
 use Rattle.samples.proofs.Cases as cases
 use Rattle.samples.proofs.Runs.{Quiet, join, ending}
 use Rattle.samples.proofs.Stretches.{not-not, mid, at-early, at-gap, at-second, at-24, starting, Open, legEnd, idle, first-half, quiet-leg}
-use Rattle.samples.proofs.Stretches.{line-last, shiftedBy}
+use Rattle.samples.proofs.Stretches.{line-last, soFar}
 use Rattle.samples.proofs.Tolerant.{rising}
 
 ends : {q : Reader} (a : List ℕ) (s : ℕ) (x : Answer) → Quiet freshOf a q → stepOf q s ≡ gives x → Last (a ++ (s ∷ [])) x
@@ -43,7 +43,7 @@ module _ (n s : ℕ) (l : List Stretch) (k : Kept s l) (t : Stretch) (o : Open t
   a = levelAfter false l
 
   abbrev reader : Reader
-  reader = legEnd (1 + length l) (shiftedBy 0 false l) a t
+  reader = legEnd (1 + length l) (soFar l) a t
 
   past-middle : (x : ℕ) → stepOf reader x ≡ gives (Refused m) → Last (levelsOf n s l ++ (legSamples a t ++ (x ∷ []))) (Refused m)
   past-middle x e =
@@ -59,21 +59,21 @@ refused _ _ (start-early n s g h) =
     in-start n s false 1 g (omega arith) (a-sample (starting (s - 1)) 0 (omega arith) ∙ cases.start-early (s - 1 + 1) (omega arith))
 refused _ _ (start-late n b) = in-start n 15 b 2 (omega arith) (omega arith) (start-any-late b)
 refused _ _ (before-8 n s l d k g h) =
-    at-edge n s l k (plain d) (g, omega arith) 1 (at-early (1 + length l) (shiftedBy 0 false l) (d - 1) (levelAfter false l) false (omega arith))
+    at-edge n s l k (plain d) (g, omega arith) 1 (at-early (1 + length l) (soFar l) (d - 1) (levelAfter false l) false (omega arith))
 refused _ _ (past-14 n s l d k g h) =
     at-edge n s l k (plain d) (omega arith, omega arith) 1
-    (at-gap (1 + length l) (shiftedBy 0 false l) (d - 1) (levelAfter false l) false (omega arith) (omega arith))
+    (at-gap (1 + length l) (soFar l) (d - 1) (levelAfter false l) false (omega arith) (omega arith))
 refused _ _ (second n s l e d k g h u v) =
     let c = levelAfter false l in
     at-edge n s l k (crossed e d) (g, h, u, omega arith) 1
-    (subst (λ (b : Bool). stepOf (mid (1 + length l) (shiftedBy 0 false l) (d - 1) (not c) true) (levelOf b) ≡ gives (Refused 1)) (not-not c)
-    (at-second (1 + length l) (shiftedBy 0 false l) (d - 1) (not c) true (omega arith) refl))
+    (subst (λ (b : Bool). stepOf (mid (1 + length l) (soFar l) (d - 1) (not c) true) (levelOf b) ≡ gives (Refused 1)) (not-not c)
+    (at-second (1 + length l) (soFar l) (d - 1) (not c) true (omega arith) refl))
 refused _ _ (late n s l b k) =
     past-middle n s l k (plain 24) (omega arith, omega arith) 2 (levelOf b)
-    (at-24 (1 + length l) (shiftedBy 0 false l) 23 (levelAfter false l) false b (omega arith))
+    (at-24 (1 + length l) (soFar l) 23 (levelAfter false l) false b (omega arith))
 refused _ _ (late-crossed n s l e b k g h) =
     past-middle n s l k (crossed e 24) (g, h, omega arith, omega arith) 2 (levelOf b)
-    (at-24 (1 + length l) (shiftedBy 0 false l) 23 (not (levelAfter false l)) true b (omega arith))
+    (at-24 (1 + length l) (soFar l) 23 (not (levelAfter false l)) true b (omega arith))
 refused _ _ (rises n s l t k len ht f) = rising n s l t (k .from) (k .upto) (k .allowed) ht len f
 
 -- "A sample of 2 to 255 is refusal 4 in every state and before 1 to 3; the reader then waits for 24 idle samples."

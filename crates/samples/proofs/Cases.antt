@@ -2,15 +2,16 @@
 -- Assumes nothing.
 use mathlib.Core.Path.{_≡_, refl, ap}
 use mathlib.Core.Bool.{Bool, true, false, _&&_, Bool·beq}
-use Prim.Native.Nat.{ℕ, _+_, _*_, _%_, _^_, _≤_, _<_, min}
+use Prim.Native.Nat.{ℕ, _+_, _≤_, _<_, min}
 use native.Mathlib.Omega.{arith}
 use borrow.Author.Tests.{lt-ltb, le-ltb, le-leb, lt-leb}
 use lib.Dec.{eqb}
 use Rattle.samples.specs.declared.Middle.{Middle}
 use Rattle.samples.specs.declared.Phase.the-variants.{Waiting, Start, Bits}
+use Rattle.samples.specs.declared.Answer.the-variants.{Frame}
 use Rattle.samples.specs.Reader.{Reader}
-use Rattle.samples.specs.Answers.{early, late, no-stop, no-sample, frame}
-use Rattle.samples.specs.Reading.{gives, goesOn, waitedOf, startOf, pastEdge, fartherOf, bitOf, middleOf, nextOf, takenBy, stepOf}
+use Rattle.samples.specs.Answers.{early, late, no-stop, no-sample}
+use Rattle.samples.specs.Reading.{gives, goesOn, waitedOf, startOf, begun, pastEdge, fartherOf, bitOf, withBit, middleOf, nextOf, takenBy, stepOf}
 
 and-false : (b : Bool) → b && false ≡ false
 and-false true = refl
@@ -46,7 +47,7 @@ module _ (d : ℕ) where
   unfolding startOf
   start-early h = simp (lt-leb 8 d h, lt-ltb d 8 h)
 
-  pub start-middle : 8 ≤ d → d ≤ 14 → startOf d false ≡ goesOn (Bits (pastEdge 1 0 false))
+  pub start-middle : 8 ≤ d → d ≤ 14 → startOf d false ≡ goesOn (Bits (pastEdge 1 begun false))
   unfolding startOf
   start-middle h g = simp (le-leb 8 d h, le-leb d 14 g)
 
@@ -55,11 +56,11 @@ module _ (m : Middle) (a : Bool) where
   unfolding middleOf
   stop-rises h f = simp (le-ltb (m .edges + 1) 34 (omega arith), f)
 
-  pub stop-falls : 33 ≤ m .edges → a ≡ false → middleOf m a ≡ gives (frame (m .word))
+  pub stop-falls : 33 ≤ m .edges → a ≡ false → middleOf m a ≡ gives (Frame (m .frame))
   unfolding middleOf
   stop-falls h f = simp (le-ltb (m .edges + 1) 34 (omega arith), f)
 
-  pub next-bit : m .edges < 33 → middleOf m a ≡ goesOn (Bits (pastEdge (m .edges + 1) ((m .word * 2 + bitOf a) % 2 ^ 32) a))
+  pub next-bit : m .edges < 33 → middleOf m a ≡ goesOn (Bits (pastEdge (m .edges + 1) (withBit (m .frame) a) a))
   unfolding middleOf
   next-bit h = simp (lt-ltb (m .edges + 1) 34 (omega arith))
 

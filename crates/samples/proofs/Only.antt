@@ -10,16 +10,16 @@ use native.Mathlib.Decide.{decLt}
 use native.Mathlib.Omega.{arith}
 use lib.ListN.{length, replicate}
 use Rattle.word.proofs.Clash.{clash}
+use Rattle.word.specs.declared.Frame.{Frame}
 use Rattle.samples.specs.declared.Phase.the-variants.{Bits}
 use Rattle.samples.specs.declared.Answer.{Answer}
-use Rattle.samples.specs.declared.Answer.the-variants.{Nothing}
+use Rattle.samples.specs.declared.Answer.the-variants as answer
 use Rattle.samples.specs.Reader.{Reader, Step}
-use Rattle.samples.specs.Answers.{frame}
 use Rattle.samples.specs.Reading.{freshOf, stepOf}
 use Rattle.samples.specs.Run.{answersOf, none, Last}
-use Rattle.samples.specs.Edges.{levelOf, Stretch, plain, crossed, AllAllowed, levelAfter, legSamples, levelsOf, wordIn, Heard}
+use Rattle.samples.specs.Edges.{levelOf, Stretch, plain, crossed, AllAllowed, levelAfter, legSamples, levelsOf, Heard}
 use Rattle.samples.proofs.Cases.{bad-sample}
-use Rattle.samples.proofs.Stretches.{not-not, md, mid, same-level, at-second, at-early, at-gap, at-24, at-other, Open, legEnd}
+use Rattle.samples.proofs.Stretches.{not-not, md, mid, same-level, at-second, at-early, at-gap, at-24, at-other, Open, legEnd, soFar}
 use Rattle.samples.proofs.Told.{Told, waits, starts, follows, Next, goes, refuses, snoc, behind, wait-next, start-next}
 use Rattle.samples.proofs.ToldEdge.{edge-next}
 
@@ -52,72 +52,72 @@ module _ (h b : List ℕ) (s : ℕ) (l : List Stretch) (hs : (8 ≤ s) × (s ≤
   -- no other edge so far
   module _ (d : ℕ) (o : Open (plain d)) (e : h ≡ b ++ (levelsOf 0 s l ++ legSamples c (plain d))) where
     abbrev at : ℕ → Step
-    at x = stepOf (mid k (wordIn l) (d - 1) c false) x
+    at x = stepOf (mid k (soFar l) (d - 1) c false) x
 
     plain-same : Dec (d < 24) → Next h (levelOf c) (at (levelOf c))
-    plain-same (no g) = refuses h (levelOf c) _ (at-24 k (wordIn l) (d - 1) c false c (omega arith))
+    plain-same (no g) = refuses h (levelOf c) _ (at-24 k (soFar l) (d - 1) c false c (omega arith))
     plain-same (yes g) =
         let n : d - 1 + 1 ≡ d + 1 - 1 = omega arith in
-        goes h (levelOf c) _ (Bits (md k (wordIn l) (d - 1 + 1) c false)) (same-level k (wordIn l) (d - 1) c false (omega arith))
+        goes h (levelOf c) _ (Bits (md k (soFar l) (d - 1 + 1) c false)) (same-level k (soFar l) (d - 1) c false (omega arith))
         (follows b s l (plain (d + 1)) hs hl len (omega arith, omega arith)
         (further (plain d) (levelOf c) (plain (d + 1)) e (snoc (d - 1) (levelOf c) ∙ ap (λ (m : ℕ). replicate m (levelOf c)) n))
-        (ap (λ (m : ℕ). mid k (wordIn l) m c false) n))
+        (ap (λ (m : ℕ). mid k (soFar l) m c false) n))
 
     plain-edge : Dec (d < 8) → Dec (d < 15) → Dec (d < 18) → Dec (d < 24) → Next h (levelOf (not c)) (at (levelOf (not c)))
-    plain-edge (yes g) q u v = refuses h (levelOf (not c)) _ (at-early k (wordIn l) (d - 1) c false (omega arith))
+    plain-edge (yes g) q u v = refuses h (levelOf (not c)) _ (at-early k (soFar l) (d - 1) c false (omega arith))
     plain-edge (no g) (yes q) u v =
         let n : d - 1 + 1 ≡ d + 1 - 1 = omega arith in
         let one : 1 ≡ d + 1 - d = omega arith in
-        goes h (levelOf (not c)) _ (Bits (md k (wordIn l) (d - 1 + 1) (not c) true)) (at-other k (wordIn l) (d - 1) c (omega arith) (omega arith))
+        goes h (levelOf (not c)) _ (Bits (md k (soFar l) (d - 1 + 1) (not c) true)) (at-other k (soFar l) (d - 1) c (omega arith) (omega arith))
         (follows b s l (crossed d (d + 1)) hs hl len (omega arith, omega arith, omega arith, omega arith)
         (further (plain d) (levelOf (not c)) (crossed d (d + 1)) e
         (ap (λ (m : ℕ). replicate (d - 1) (levelOf c) ++ replicate m (levelOf (not c))) one))
-        (ap (λ (m : ℕ). mid k (wordIn l) m (not c) true) n))
-    plain-edge (no g) (no q) (yes u) v = refuses h (levelOf (not c)) _ (at-gap k (wordIn l) (d - 1) c false (omega arith) (omega arith))
+        (ap (λ (m : ℕ). mid k (soFar l) m (not c) true) n))
+    plain-edge (no g) (no q) (yes u) v = refuses h (levelOf (not c)) _ (at-gap k (soFar l) (d - 1) c false (omega arith) (omega arith))
     plain-edge (no g) (no q) (no u) (yes v) = edge-next h b s l (plain d) hs hl len e (omega arith, omega arith)
-    plain-edge (no g) (no q) (no u) (no v) = refuses h (levelOf (not c)) _ (at-24 k (wordIn l) (d - 1) c false (not c) (omega arith))
+    plain-edge (no g) (no q) (no u) (no v) = refuses h (levelOf (not c)) _ (at-24 k (soFar l) (d - 1) c false (not c) (omega arith))
 
     plain-next : (x : ℕ) → Next h x (at x)
     plain-next x = go (level c x)
       where
         go : ((x ≡ levelOf c) ⊎ (x ≡ levelOf (not c))) ⊎ (2 ≤ x) → Next h x (at x)
-        go (inr g) = refuses h x _ (bad-sample (mid k (wordIn l) (d - 1) c false) x g)
+        go (inr g) = refuses h x _ (bad-sample (mid k (soFar l) (d - 1) c false) x g)
         go (inl (inl f)) = subst (λ (q : ℕ). Next h q (at q)) (sym f) (plain-same (decLt d 24))
         go (inl (inr f)) = subst (λ (q : ℕ). Next h q (at q)) (sym f) (plain-edge (decLt d 8) (decLt d 15) (decLt d 18) (decLt d 24))
 
   -- after the other edge, at distance q
   module _ (q d : ℕ) (o : Open (crossed q d)) (e : h ≡ b ++ (levelsOf 0 s l ++ legSamples c (crossed q d))) where
     abbrev at' : ℕ → Step
-    at' x = stepOf (mid k (wordIn l) (d - 1) (not c) true) x
+    at' x = stepOf (mid k (soFar l) (d - 1) (not c) true) x
 
     crossed-same : Dec (d < 24) → Next h (levelOf (not c)) (at' (levelOf (not c)))
-    crossed-same (no g) = refuses h (levelOf (not c)) _ (at-24 k (wordIn l) (d - 1) (not c) true (not c) (omega arith))
+    crossed-same (no g) = refuses h (levelOf (not c)) _ (at-24 k (soFar l) (d - 1) (not c) true (not c) (omega arith))
     crossed-same (yes g) =
         let n : d - 1 + 1 ≡ d + 1 - 1 = omega arith in
         let m : d - q + 1 ≡ d + 1 - q = omega arith in
-        goes h (levelOf (not c)) _ (Bits (md k (wordIn l) (d - 1 + 1) (not c) true)) (same-level k (wordIn l) (d - 1) (not c) true (omega arith))
+        goes h (levelOf (not c)) _ (Bits (md k (soFar l) (d - 1 + 1) (not c) true)) (same-level k (soFar l) (d - 1) (not c) true (omega arith))
         (follows b s l (crossed q (d + 1)) hs hl len (omega arith, omega arith, omega arith, omega arith)
         (further (crossed q d) (levelOf (not c)) (crossed q (d + 1)) e
         (append-assoc (replicate (q - 1) (levelOf c)) (replicate (d - q) (levelOf (not c))) (levelOf (not c) ∷ [])
         ∙ ap (λ (y : List ℕ). replicate (q - 1) (levelOf c) ++ y) (snoc (d - q) (levelOf (not c)) ∙ ap (λ (j : ℕ). replicate j (levelOf (not c))) m)))
-        (ap (λ (j : ℕ). mid k (wordIn l) j (not c) true) n))
+        (ap (λ (j : ℕ). mid k (soFar l) j (not c) true) n))
 
     crossed-edge : Dec (d < 18) → Dec (d < 24) → Next h (levelOf (not (not c))) (at' (levelOf (not (not c))))
-    crossed-edge (yes u) v = refuses h (levelOf (not (not c))) _ (at-second k (wordIn l) (d - 1) (not c) true (omega arith) refl)
+    crossed-edge (yes u) v = refuses h (levelOf (not (not c))) _ (at-second k (soFar l) (d - 1) (not c) true (omega arith) refl)
     crossed-edge (no u) (yes v) =
         subst (λ (a : Bool). Next h (levelOf a) (at' (levelOf a))) (sym (not-not c))
         (edge-next h b s l (crossed q d) hs hl len e (omega arith, omega arith, omega arith, omega arith))
-    crossed-edge (no u) (no v) = refuses h (levelOf (not (not c))) _ (at-24 k (wordIn l) (d - 1) (not c) true (not (not c)) (omega arith))
+    crossed-edge (no u) (no v) = refuses h (levelOf (not (not c))) _ (at-24 k (soFar l) (d - 1) (not c) true (not (not c)) (omega arith))
 
     crossed-next : (x : ℕ) → Next h x (at' x)
     crossed-next x = go (level (not c) x)
       where
         go : ((x ≡ levelOf (not c)) ⊎ (x ≡ levelOf (not (not c)))) ⊎ (2 ≤ x) → Next h x (at' x)
-        go (inr g) = refuses h x _ (bad-sample (mid k (wordIn l) (d - 1) (not c) true) x g)
+        go (inr g) = refuses h x _ (bad-sample (mid k (soFar l) (d - 1) (not c) true) x g)
         go (inl (inl f)) = subst (λ (y : ℕ). Next h y (at' y)) (sym f) (crossed-same (decLt d 24))
         go (inl (inr f)) = subst (λ (y : ℕ). Next h y (at' y)) (sym f) (crossed-edge (decLt d 18) (decLt d 24))
 
-  follow-next : (t : Stretch) (x : ℕ) → Open t → h ≡ b ++ (levelsOf 0 s l ++ legSamples c t) → Next h x (stepOf (legEnd k (wordIn l) c t) x)
+  follow-next : (t : Stretch) (x : ℕ) → Open t → h ≡ b ++ (levelsOf 0 s l ++ legSamples c t) → Next h x (stepOf (legEnd k (soFar l) c t) x)
   follow-next (plain d) x o e = plain-next d o e x
   follow-next (crossed q d) x o e = crossed-next q d o e x
 
@@ -127,22 +127,22 @@ told-next h r x (starts b d e f) = subst (λ (q : Reader). Next h x (stepOf q x)
 told-next h r x (follows b s l t hs hl len o e f) = subst (λ (q : Reader). Next h x (stepOf q x)) (sym f) (follow-next h b s l hs hl len t x o e)
 
 abbrev headOf : List Answer → Answer
-headOf [] = Nothing
+headOf [] = answer.Nothing
 headOf (x ∷ l) = x
 
 abbrev tailOf : List Answer → List Answer
 tailOf [] = []
 tailOf (x ∷ l) = l
 
-from : (n : ℕ) (h : List ℕ) (r : Reader) (l : List ℕ) (w : ℕ) → Told h r → answersOf r l ≡ none n ++ (frame w ∷ []) → Heard (h ++ l) w
+from : (n : ℕ) (h : List ℕ) (r : Reader) (l : List ℕ) (f : Frame) → Told h r → answersOf r l ≡ none n ++ (answer.Frame f ∷ []) → Heard (h ++ l) f
 unfolding answersOf
-from zero h r [] w t e = clash cc
-from (suc n) h r [] w t e = clash cc
-from zero h r (x ∷ []) w t e = told-next h r x t .given w (ap headOf e)
-from zero h r (x ∷ y ∷ l) w t e = let f = ap tailOf e in clash cc
-from (suc n) h r (x ∷ l) w t e =
-    subst (λ (y : List ℕ). Heard y w) (append-assoc h (x ∷ []) l)
-    (from n (h ++ (x ∷ [])) (stepOf r x .reader) l w (told-next h r x t .on (ap headOf e)) (ap tailOf e))
+from zero h r [] f t e = clash cc
+from (suc n) h r [] f t e = clash cc
+from zero h r (x ∷ []) f t e = told-next h r x t .given f (ap headOf e)
+from zero h r (x ∷ y ∷ l) f t e = let z = ap tailOf e in clash cc
+from (suc n) h r (x ∷ l) f t e =
+    subst (λ (y : List ℕ). Heard y f) (append-assoc h (x ∷ []) l)
+    (from n (h ++ (x ∷ [])) (stepOf r x .reader) l f (told-next h r x t .on (ap headOf e)) (ap tailOf e))
 
-pub only : (l : List ℕ) (w : ℕ) → Last l (frame w) → Heard l w
-only l w e = from (length l - 1) [] freshOf l w (waits [] 0 (omega arith) refl refl) e
+pub only : (l : List ℕ) (f : Frame) → Last l (answer.Frame f) → Heard l f
+only l f e = from (length l - 1) [] freshOf l f (waits [] 0 (omega arith) refl refl) e

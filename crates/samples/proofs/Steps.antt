@@ -5,23 +5,23 @@ use mathlib.Core.Bool.{Bool, true, false, cond, not, _&&_, Bool·beq}
 use Prim.Native.Nat.{ℕ, _+_, _≤_}
 use native.Mathlib.Omega.{arith}
 use lib.Dec.{leb, ltb, eqb}
+use Rattle.word.specs.declared.Frame.{Frame}
 use Rattle.samples.specs.declared.Middle.{Middle}
 use Rattle.samples.specs.declared.Phase.{Phase}
 use Rattle.samples.specs.declared.Phase.the-variants.{Waiting, Start, Bits}
-use Rattle.samples.specs.declared.Answer.the-variants.{Refused}
+use Rattle.samples.specs.declared.Answer.the-variants as answer
 use Rattle.samples.specs.Reader.{Reader, Step}
-use Rattle.samples.specs.Answers.{frame}
 use Rattle.samples.specs.Reading.{goesOn, gives, within, startOf, middleOf, nextOf, takenBy, stepOf}
 
-module _ (P : Step → Type 0) (on : (p : Phase) → P (goesOn p)) (word : (w : ℕ) → P (gives (frame w)))
-    (refused : (n : ℕ) → 1 ≤ n → n ≤ 4 → P (gives (Refused n))) where
+module _ (P : Step → Type 0) (on : (p : Phase) → P (goesOn p)) (frame : (f : Frame) → P (gives (answer.Frame f)))
+    (refused : (n : ℕ) → 1 ≤ n → n ≤ 4 → P (gives (answer.Refused n))) where
   either : (b : Bool) (x y : Step) → P x → P y → P (cond b x y)
   either true x y h g = h
   either false x y h g = g
 
   middle : (m : Middle) (a : Bool) → P (middleOf m a)
   unfolding middleOf
-  middle m a = either (ltb (m .edges + 1) 34) _ _ (on _) (either a _ _ (refused _ (omega arith) (omega arith)) (word _))
+  middle m a = either (ltb (m .edges + 1) 34) _ _ (on _) (either a _ _ (refused _ (omega arith) (omega arith)) (frame _))
 
   start : (d : ℕ) (a : Bool) → P (startOf d a)
   unfolding startOf

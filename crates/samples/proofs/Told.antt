@@ -9,16 +9,16 @@ use native.Mathlib.Decide.{decLt}
 use native.Mathlib.Omega.{arith}
 use lib.ListN.{length, replicate, replicate-append-replicate}
 use Rattle.word.proofs.Clash.{clash}
+use Rattle.word.specs.declared.Frame.{Frame}
 use Rattle.samples.specs.declared.Phase.{Phase}
 use Rattle.samples.specs.declared.Phase.the-variants.{Waiting, Start, Bits}
 use Rattle.samples.specs.declared.Answer.{Answer}
-use Rattle.samples.specs.declared.Answer.the-variants.{Nothing, Frame, Refused}
+use Rattle.samples.specs.declared.Answer.the-variants as answer
 use Rattle.samples.specs.Reader.{Reader, Step}
-use Rattle.samples.specs.Answers.{frame}
-use Rattle.samples.specs.Reading.{gives, goesOn, pastEdge, stepOf}
-use Rattle.samples.specs.Edges.{Stretch, plain, AllAllowed, levelAfter, legSamples, levelsOf, wordIn, Heard}
+use Rattle.samples.specs.Reading.{gives, goesOn, begun, pastEdge, stepOf}
+use Rattle.samples.specs.Edges.{Stretch, plain, AllAllowed, levelAfter, legSamples, levelsOf, Heard}
 use Rattle.samples.proofs.Cases.{more-idle, idle-enough, too-soon, first-edge, start-late, start-on, start-early, start-middle, bad-sample, a-sample}
-use Rattle.samples.proofs.Stretches.{starting, Open, legEnd}
+use Rattle.samples.proofs.Stretches.{starting, Open, legEnd, soFar}
 
 -- the samples h came since the last answer, and the reader is r: it waits, and they end with n idle ones; it is in the start bit, and
 -- they end with 24 idle and d + 1 active ones; or it is past a middle edge, and they end with a line at 01's distances and what has come
@@ -27,35 +27,35 @@ pub data Told (h : List ℕ) (r : Reader) : Type 0 where
   waits : (b : List ℕ) (n : ℕ) → n ≤ 24 → h ≡ b ++ replicate n 0 → r ≡ record { phase = Waiting n } → Told h r
   starts : (b : List ℕ) (d : ℕ) → h ≡ b ++ (replicate 24 0 ++ replicate (d + 1) 1) → r ≡ starting d → Told h r
   follows : (b : List ℕ) (s : ℕ) (l : List Stretch) (t : Stretch) → (8 ≤ s) × (s ≤ 14) → AllAllowed l → length l ≤ 32 → Open t
-      → h ≡ b ++ (levelsOf 0 s l ++ legSamples (levelAfter false l) t) → r ≡ legEnd (1 + length l) (wordIn l) (levelAfter false l) t → Told h r
+      → h ≡ b ++ (levelsOf 0 s l ++ legSamples (levelAfter false l) t) → r ≡ legEnd (1 + length l) (soFar l) (levelAfter false l) t → Told h r
 
 -- what the step of a sample x says of the samples h before it
 pub record Next (h : List ℕ) (x : ℕ) (y : Step) : Type 0 where
-  pub on : y .answer ≡ Nothing → Told (h ++ (x ∷ [])) (y .reader)
-  pub given : (w : ℕ) → y .answer ≡ frame w → Heard (h ++ (x ∷ [])) w
+  pub on : y .answer ≡ answer.Nothing → Told (h ++ (x ∷ [])) (y .reader)
+  pub given : (f : Frame) → y .answer ≡ answer.Frame f → Heard (h ++ (x ∷ [])) f
 
-abbrev wordGiven : Answer → ℕ
-wordGiven Nothing = 0
-wordGiven (Frame f) = f .word
-wordGiven (Refused n) = 0
+abbrev frameGiven : Answer → Frame
+frameGiven answer.Nothing = begun
+frameGiven (answer.Frame f) = f
+frameGiven (answer.Refused n) = begun
 
 module _ (h : List ℕ) (x : ℕ) (y : Step) where
   pub goes : (p : Phase) → y ≡ goesOn p → Told (h ++ (x ∷ [])) (record { phase = p }) → Next h x y
   goes p e t = record {
     on = λ f. subst (λ (q : Step). Told (h ++ (x ∷ [])) (q .reader)) (sym e) t;
-    given = λ w f. clash (cc (ap (λ (q : Step). q .answer) e));
+    given = λ g f. clash (cc (ap (λ (q : Step). q .answer) e));
   }
 
-  pub refuses : {n : ℕ} → y ≡ gives (Refused n) → Next h x y
+  pub refuses : {n : ℕ} → y ≡ gives (answer.Refused n) → Next h x y
   refuses e = record {
     on = λ f. clash (cc (ap (λ (q : Step). q .answer) e));
-    given = λ w f. clash (cc (ap (λ (q : Step). q .answer) e));
+    given = λ g f. clash (cc (ap (λ (q : Step). q .answer) e));
   }
 
-  pub ends : (v : ℕ) → y ≡ gives (frame v) → Heard (h ++ (x ∷ [])) v → Next h x y
-  ends v e g = record {
+  pub ends : (q : Frame) → y ≡ gives (answer.Frame q) → Heard (h ++ (x ∷ [])) q → Next h x y
+  ends q e g = record {
     on = λ f. clash (cc (ap (λ (q : Step). q .answer) e));
-    given = λ w f. subst (Heard (h ++ (x ∷ []))) (ap wordGiven (sym (ap (λ (q : Step). q .answer) e) ∙ f)) g;
+    given = λ p f. subst (Heard (h ++ (x ∷ []))) (ap frameGiven (sym (ap (λ (q : Step). q .answer) e) ∙ f)) g;
   }
 
 pub snoc : (n v : ℕ) → replicate n v ++ (v ∷ []) ≡ replicate (n + 1) v
@@ -108,7 +108,7 @@ start-next h b d zero e = go (decLt d 14) (decLt d 7)
     go (no l) q = refuses h 0 _ (a-sample (starting d) 0 (omega arith) ∙ start-late (d + 1) false (omega arith))
     go (yes l) (yes q) = refuses h 0 _ (a-sample (starting d) 0 (omega arith) ∙ start-early (d + 1) (omega arith))
     go (yes l) (no q) =
-        goes h 0 _ (Bits (pastEdge 1 0 false)) (a-sample (starting d) 0 (omega arith) ∙ start-middle (d + 1) (omega arith) (omega arith))
+        goes h 0 _ (Bits (pastEdge 1 begun false)) (a-sample (starting d) 0 (omega arith) ∙ start-middle (d + 1) (omega arith) (omega arith))
         (follows b (d + 1) [] (plain 1) (omega arith, omega arith) tt (omega arith) (omega arith, omega arith)
         (behind h b (replicate 24 0 ++ replicate (d + 1) 1) (levelsOf 0 (d + 1) [] ++ []) 0 e (sym (append-nil (levelsOf 0 (d + 1) []))))
         refl)

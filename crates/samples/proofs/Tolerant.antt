@@ -7,13 +7,15 @@ use mathlib.Core.List.{List, [], _∷_, _++_, append-assoc}
 use Prim.Native.Nat.{ℕ, _+_, _-_, _≤_}
 use native.Mathlib.Omega.{arith}
 use lib.ListN.{length, length-append}
+use Rattle.word.specs.declared.Frame.{Frame}
+use Rattle.samples.specs.declared.Answer.the-variants as answer
 use Rattle.samples.specs.Answers.{frame, no-stop}
-use Rattle.samples.specs.Reading.{freshOf, gives, middleOf, stepOf}
+use Rattle.samples.specs.Reading.{freshOf, begun, gives, middleOf, stepOf}
 use Rattle.samples.specs.Run.{answersOf, afterOf, none, Last}
 use Rattle.samples.specs.Edges.{levelOf, Stretch, plain, crossed, Allowed, AllAllowed, turned, levelAfter, legSamples, levelsOf, wordIn}
 use Rattle.samples.proofs.Cases.{stop-rises, stop-falls}
 use Rattle.samples.proofs.Runs.{Quiet, ending, ending-after}
-use Rattle.samples.proofs.Stretches.{allowed-open, afterLeg, legEnd, leg-edge, shiftedBy, word-after, quiet-leg, line-last}
+use Rattle.samples.proofs.Stretches.{allowed-open, afterLeg, legEnd, leg-edge, soFar, word-after, quiet-leg, line-last}
 
 -- 24 idle samples or more, a start bit, 32 stretches, and the one to the 34th middle edge
 module _ (n s : ℕ) (l : List Stretch) (t : Stretch) (gs : 8 ≤ s) (hs : s ≤ 14) (hl : AllAllowed l) (ht : Allowed t) (len : length l ≡ 32) where
@@ -36,20 +38,20 @@ module _ (n s : ℕ) (l : List Stretch) (t : Stretch) (gs : 8 ≤ s) (hs : s ≤
       let h : length line ≡ length before-last + 1 = ap length split ∙ length-append before-last (levelOf (turned a t) ∷ []) in
       omega arith
 
-  quiet : Quiet freshOf before-last (legEnd (1 + length l) (shiftedBy 0 false l) a t)
+  quiet : Quiet freshOf before-last (legEnd (1 + length l) (soFar l) a t)
   quiet = quiet-leg n s l gs hs hl (omega arith) t (allowed-open t ht)
 
-  stop : (k w : ℕ) (t : Stretch) (b : Bool) → 33 ≤ k → middleOf (afterLeg k w a t) b ≡ gives (cond b no-stop (frame w))
-  stop k w (plain d) true h = stop-rises (afterLeg k w a (plain d)) true h refl
-  stop k w (plain d) false h = stop-falls (afterLeg k w a (plain d)) false h refl
-  stop k w (crossed e d) true h = stop-rises (afterLeg k w a (crossed e d)) true h refl
-  stop k w (crossed e d) false h = stop-falls (afterLeg k w a (crossed e d)) false h refl
+  stop : (k : ℕ) (f : Frame) (t : Stretch) (b : Bool) → 33 ≤ k → middleOf (afterLeg k f a t) b ≡ gives (cond b no-stop (answer.Frame f))
+  stop k f (plain d) true h = stop-rises (afterLeg k f a (plain d)) true h refl
+  stop k f (plain d) false h = stop-falls (afterLeg k f a (plain d)) false h refl
+  stop k f (crossed e d) true h = stop-rises (afterLeg k f a (crossed e d)) true h refl
+  stop k f (crossed e d) false h = stop-falls (afterLeg k f a (crossed e d)) false h refl
 
-  last : stepOf (legEnd (1 + length l) (shiftedBy 0 false l) a t) (levelOf (turned a t)) ≡ gives (cond (turned a t) no-stop (frame (wordIn l)))
+  last : stepOf (legEnd (1 + length l) (soFar l) a t) (levelOf (turned a t)) ≡ gives (cond (turned a t) no-stop (frame (wordIn l)))
   last =
-      leg-edge (1 + length l) (shiftedBy 0 false l) a t ht
-      ∙ stop (1 + length l) (shiftedBy 0 false l) t (turned a t) (omega arith)
-      ∙ ap (λ (w : ℕ). gives (cond (turned a t) no-stop (frame w))) (word-after 0 0 false l (omega arith) (omega arith))
+      leg-edge (1 + length l) (soFar l) a t ht
+      ∙ stop (1 + length l) (soFar l) t (turned a t) (omega arith)
+      ∙ ap (λ (w : ℕ). gives (cond (turned a t) no-stop (frame w))) (word-after 0 begun false l (omega arith) (omega arith))
 
   -- the one answer comes at the last sample
   judged : Last line (cond (turned a t) no-stop (frame (wordIn l)))

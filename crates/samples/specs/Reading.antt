@@ -4,13 +4,14 @@
 use Prim.Native.Nat.{ℕ, _+_, _*_, _%_, _^_, min}
 use mathlib.Core.Bool.{Bool, true, false, cond, not, _&&_, Bool·beq}
 use lib.Dec.{leb, ltb, eqb}
+use Rattle.word.specs.declared.Frame.{Frame}
 use Rattle.samples.specs.declared.Middle.{Middle}
 use Rattle.samples.specs.declared.Phase.{Phase}
 use Rattle.samples.specs.declared.Phase.the-variants.{Waiting, Start, Bits}
 use Rattle.samples.specs.declared.Answer.{Answer}
-use Rattle.samples.specs.declared.Answer.the-variants.{Nothing}
+use Rattle.samples.specs.declared.Answer.the-variants as answer
 use Rattle.samples.specs.Reader.{Reader, Step}
-use Rattle.samples.specs.Answers.{early, late, no-stop, no-sample, frame}
+use Rattle.samples.specs.Answers.{early, late, no-stop, no-sample}
 
 -- "A fresh reader, and one that has just given a frame or a refusal, waits for 24 idle samples in a row; the sample that gave the
 -- answer isn't counted"
@@ -22,7 +23,7 @@ gives a = record { reader = freshOf; answer = a }
 
 -- no answer yet
 abbrev pub goesOn : Phase → Step
-goesOn p = record { reader = record { phase = p }; answer = Nothing }
+goesOn p = record { reader = record { phase = p }; answer = answer.Nothing }
 
 -- "an active one starts the count again. Then: the first active sample is an edge": n idle samples in a row came before
 unfoldable pub waitedOf : ℕ → Bool → Phase
@@ -33,15 +34,19 @@ abbrev pub within : ℕ → ℕ → ℕ → Bool
 within from to d = leb from d && leb d to
 
 -- at a middle edge to this level: distances count from here
-abbrev pub pastEdge : ℕ → ℕ → Bool → Middle
-pastEdge edges word active = record { edges = edges; word = word; distance = 0; active = active; other = false }
+abbrev pub pastEdge : ℕ → Frame → Bool → Middle
+pastEdge edges frame active = record { edges = edges; frame = frame; distance = 0; active = active; other = false }
+
+-- at the start bit's, which has no bit of the word
+abbrev pub begun : Frame
+begun = record { word = 0 }
 
 -- "the start bit's middle edge follows at distance 8 to 14. An earlier edge is refusal 1; no edge up to 14 is refusal 2, given at
 -- distance 15 for either level there": a sample at distance d from the first edge. The line was active since, so an idle one is an edge
 unfoldable pub startOf : ℕ → Bool → Step
 startOf d active =
     let edge = not active in
-    cond (edge && within 8 14 d) (goesOn (Bits (pastEdge 1 0 false)))
+    cond (edge && within 8 14 d) (goesOn (Bits (pastEdge 1 begun false)))
     (cond (edge && ltb d 8) (gives early)
     (cond (ltb 14 d) (gives late)
     (goesOn (Start d))))
@@ -51,16 +56,19 @@ abbrev pub bitOf : Bool → ℕ
 bitOf true = 0
 bitOf false = 1
 
+abbrev pub withBit : Frame → Bool → Frame
+withBit f active = record { word = (f .word * 2 + bitOf active) % 2 ^ 32 }
+
 -- "The 34th must fall, else refusal 3. The frame is given at that sample, of either parity.": the next middle edge, to this level
 unfoldable pub middleOf : Middle → Bool → Step
 middleOf m active =
     cond (ltb (m .edges + 1) 34)
-    (goesOn (Bits (pastEdge (m .edges + 1) ((m .word * 2 + bitOf active) % 2 ^ 32) active)))
-    (cond active (gives no-stop) (gives (frame (m .word))))
+    (goesOn (Bits (pastEdge (m .edges + 1) (withBit (m .frame) active) active)))
+    (cond active (gives no-stop) (gives (answer.Frame (m .frame))))
 
 -- the sample at distance d from the same middle edge; `other`: whether the other edge was there
 abbrev pub fartherOf : Middle → ℕ → Bool → Bool → Middle
-fartherOf m d active other = record { edges = m .edges; word = m .word; distance = d; active = active; other = other }
+fartherOf m d active other = record { edges = m .edges; frame = m .frame; distance = d; active = active; other = other }
 
 -- "after each middle edge the next middle edge comes at 18 to 23, measured from the middle edge before. At most one other edge may
 -- stand between, at 8 to 14. Any other edge up to 17 is refusal 1. No middle edge up to 23 is refusal 2, given at distance 24 for

@@ -2,11 +2,11 @@
 // rules over them, and what they promise, are in specs/ and proofs/; there is no code here.
 use word::Frame;
 
-// Past a middle edge: how many there were, the word of their bits, how far the last sample is from the last of them, that sample's
-// level, and whether the one other edge was there.
+// Past a middle edge: how many there were, the frame as far as they tell it, how far the last sample is from the last of them, that
+// sample's level, and whether the one other edge was there.
 pub struct Middle {
     pub edges: u8,
-    pub word: u32,
+    pub frame: Frame,
     pub distance: u8,
     pub active: bool,
     pub other: bool,
