@@ -106,6 +106,7 @@ fn own_output(name: Name, input: &[u8], tally: &mut Tally) -> Vec<u8> {
         Name::Decode => {
             tally.count_many(Thing::SampleRead, input.len());
             tally.answers(&output);
+            tally.edges_read(input, &output);
         }
         Name::Encode => {
             tally.count_many(Thing::SampleWritten, output.len());

@@ -1,6 +1,7 @@
 //! The box: four lines, one order, the lent reply room (01, 'A line and its turns', 'Numbered
 //! answers').
 
+use crate::frame::Frame;
 use crate::line::{Answered, Line, Owner, Ticked};
 use crate::modbus::{self, exceptions, Judged, Order};
 use crate::refusals;
@@ -21,11 +22,11 @@ pub enum Event {
     Sent {
         line: u8,
         owner: Owner,
-        word: u32,
+        frame: Frame,
     },
     Passed {
         line: u8,
-        word: u32,
+        frame: Frame,
     },
     Dropped {
         line: u8,
@@ -77,10 +78,10 @@ impl Gateway {
         for (place, line) in self.lines.iter_mut().enumerate() {
             match line.tick() {
                 Ticked::Nothing => {}
-                Ticked::Sent(word) => events.push(Event::Sent {
+                Ticked::Sent(frame) => events.push(Event::Sent {
                     line: place as u8 + 1,
                     owner: line.last,
-                    word,
+                    frame,
                 }),
                 Ticked::NoAnswer { wait } => outcome = Some(wait),
             }
@@ -91,7 +92,7 @@ impl Gateway {
         events
     }
 
-    pub fn frame(&mut self, side: Side, line: u8, frame: u32, room: usize) -> Event {
+    pub fn frame(&mut self, side: Side, line: u8, frame: Frame, room: usize) -> Event {
         match side {
             Side::Thermostat => self.thermostat(line, frame),
             Side::Boiler => self.boiler(line, frame, room),
@@ -99,18 +100,22 @@ impl Gateway {
     }
 
     /// A thermostat frame needs no room: its order is 9, 5, 16, 6.
-    pub fn thermostat(&mut self, line: u8, frame: u32) -> Event {
+    pub fn thermostat(&mut self, line: u8, frame: impl Into<Frame>) -> Event {
+        let frame = frame.into();
         if !(1..=4).contains(&line) {
             return Event::Refused(refusals::LINE);
         }
         match self.lines[usize::from(line) - 1].thermostat(frame) {
-            Ok(()) => Event::Held { line, word: frame },
+            Ok(()) => Event::Held {
+                line,
+                word: frame.word,
+            },
             Err(number) => Event::Refused(number),
         }
     }
 
     /// "Order: 15, 9, 5, 6, 7, 8", with 16 "after 5 and before 6" (02, Ask 1).
-    pub fn boiler(&mut self, line: u8, frame: u32, room: usize) -> Event {
+    pub fn boiler(&mut self, line: u8, frame: impl Into<Frame>, room: usize) -> Event {
         if room < REPLY_ROOM {
             return Event::Refused(refusals::ROOM);
         }
@@ -120,7 +125,7 @@ impl Gateway {
         match self.lines[usize::from(line) - 1].boiler(frame) {
             Answered::Refused(number) => Event::Refused(number),
             Answered::Outcome { word, wait } => self.outcome(Some(word), wait),
-            Answered::Passed(word) => Event::Passed { line, word },
+            Answered::Passed(frame) => Event::Passed { line, frame },
             Answered::Dropped => Event::Dropped { line },
         }
     }

@@ -2,6 +2,7 @@
 
 mod frames;
 mod messages;
+pub mod numbers;
 mod pulses;
 mod script;
 mod splice;

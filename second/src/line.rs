@@ -1,5 +1,6 @@
 //! One line: its turns and waiting times (01, 'A line and its turns').
 
+use crate::frame::Frame;
 use crate::status::{Known, Question};
 use crate::{refusals, word};
 
@@ -18,7 +19,7 @@ pub enum Owner {
 /// A thermostat frame, or an order whose word is being sent, with the ticks since it came.
 #[derive(Clone, Copy, PartialEq, Eq, Debug)]
 pub struct Item {
-    pub word: u32,
+    pub frame: Frame,
     pub age: u32,
 }
 
@@ -51,7 +52,7 @@ pub struct Line {
 #[derive(Clone, Copy, PartialEq, Eq, Debug)]
 pub enum Ticked {
     Nothing,
-    Sent(u32),
+    Sent(Frame),
     NoAnswer { wait: u32 },
 }
 
@@ -59,7 +60,7 @@ pub enum Ticked {
 pub enum Answered {
     Refused(u8),
     Outcome { word: u32, wait: u32 },
-    Passed(u32),
+    Passed(Frame),
     Dropped,
 }
 
@@ -133,36 +134,35 @@ impl Line {
                     age: 0,
                 };
                 self.last = owner;
-                Ticked::Sent(item.word)
+                Ticked::Sent(item.frame)
             }
             None => Ticked::Nothing,
         }
     }
 
-    /// "The word goes out unchanged."
+    /// "The word goes out unchanged", and "the relay carries both along" (02, Ask 3).
     fn held_goes_out(&mut self) -> Option<Item> {
-        let frame = self.held.take()?;
-        self.status.went_out(frame.word);
-        Some(frame)
+        let item = self.held.take()?;
+        self.status.went_out(item.frame.word);
+        Some(item)
     }
 
+    /// Nobody read an order's word from samples, so it has no edges.
     fn order_goes_out(&mut self) -> Option<Item> {
         let Waiting { question, age } = self.order.take()?;
-        let word = self.status.word_of(question);
-        Some(Item { word, age })
+        let frame = self.status.word_of(question).into();
+        Some(Item { frame, age })
     }
 
     /// "A thermostat frame of type 0 to 2 becomes the held frame, in place of an older one,
     /// with age 0. Nothing is sent before a tick." Its order is 5, 16, 6; 9 is the box's.
-    pub fn thermostat(&mut self, frame: u32) -> Result<(), u8> {
-        word::check_at_the_line(frame)?;
-        if word::type_of(frame) > word::INVALID_DATA {
+    pub fn thermostat(&mut self, frame: impl Into<Frame>) -> Result<(), u8> {
+        let frame = frame.into();
+        word::check_at_the_line(frame.word)?;
+        if word::type_of(frame.word) > word::INVALID_DATA {
             return Err(refusals::TYPE);
         }
-        self.held = Some(Item {
-            word: frame,
-            age: 0,
-        });
+        self.held = Some(Item { frame, age: 0 });
         Ok(())
     }
 
@@ -172,11 +172,12 @@ impl Line {
 
     /// "Order: 15, 9, 5, 6, 7, 8", with 16 "after 5 and before 6" (02, Ask 1); the first two are
     /// the box's.
-    pub fn boiler(&mut self, frame: u32) -> Answered {
-        if let Err(number) = word::check_at_the_line(frame) {
+    pub fn boiler(&mut self, frame: impl Into<Frame>) -> Answered {
+        let frame = frame.into();
+        if let Err(number) = word::check_at_the_line(frame.word) {
             return Answered::Refused(number);
         }
-        if word::type_of(frame) < word::READ_ACK {
+        if word::type_of(frame.word) < word::READ_ACK {
             return Answered::Refused(refusals::TYPE);
         }
         let State::Talks { owner, item, age } = self.state else {
@@ -185,7 +186,7 @@ impl Line {
         if !(ANSWER_FROM..=ANSWER_UP_TO).contains(&age) {
             return Answered::Refused(refusals::AGE);
         }
-        if !word::matches(item.word, frame) {
+        if !word::matches(item.frame.word, frame.word) {
             return Answered::Refused(refusals::NO_MATCH);
         }
         // "A boiler frame that matches while the age is 84 to 874 ends the talk; rest
@@ -196,7 +197,7 @@ impl Line {
         // dropped and the talk still ends."
         match owner {
             Owner::Modbus => Answered::Outcome {
-                word: frame,
+                word: frame.word,
                 wait: item.age,
             },
             Owner::Thermostat if item.age <= THERMOSTAT_WAITS && self.held.is_none() => {

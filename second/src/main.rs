@@ -2,6 +2,7 @@
 //! run on, and the comparison of the two.
 
 // the rules
+mod frame;
 mod gateway;
 mod line;
 mod modbus;

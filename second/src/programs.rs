@@ -1,6 +1,6 @@
 //! The programs both sides have, by name. What 01 doesn't say of them stands in the comments of each.
 
-mod command;
+pub mod command;
 mod decode;
 pub mod replay;
 pub mod stream;

@@ -1,12 +1,13 @@
 //! Manchester samples to frames and back (01, 'Samples').
 
+use crate::frame::{Edges, Frame};
 use crate::refusals;
 
 /// "680 samples written, for any word, odd parity too."
 pub const WRITTEN: usize = 680;
 
 const IDLE_NEEDED: u32 = 24;
-const MIDDLE_EDGES: u32 = 34;
+const MIDDLE_EDGES: usize = 34;
 
 /// "Bit 1 is active then idle, bit 0 idle then active; a frame is a start bit 1, 32 bits
 /// highest first, a stop bit 1." "A bit lasts 20 samples when written."
@@ -23,7 +24,7 @@ pub fn write(word: u32) -> [u8; WRITTEN] {
 
 #[derive(Clone, Copy, PartialEq, Eq, Debug)]
 pub enum Heard {
-    Frame(u32),
+    Frame(Frame),
     Refused(u8),
 }
 
@@ -39,7 +40,7 @@ enum Phase {
     Bits {
         distance: u32,
         other_edge: bool,
-        middle_edges: u32,
+        middle_edges: usize,
         bits: u64,
     },
 }
@@ -48,6 +49,8 @@ enum Phase {
 pub struct Reader {
     phase: Phase,
     level: u8,
+    /// From each middle edge of the frame to the next. "The first half of the start bit isn't one."
+    distances: [u8; MIDDLE_EDGES - 1],
 }
 
 impl Reader {
@@ -57,6 +60,7 @@ impl Reader {
         Reader {
             phase: Phase::Waits { idle: 0 },
             level: 0,
+            distances: [0; MIDDLE_EDGES - 1],
         }
     }
 
@@ -120,7 +124,7 @@ impl Reader {
         distance: u32,
         edge: bool,
         other_edge: bool,
-        middle_edges: u32,
+        middle_edges: usize,
         bits: u64,
     ) -> Option<Heard> {
         self.phase = Phase::Bits {
@@ -131,7 +135,10 @@ impl Reader {
         };
         match distance {
             24.. => self.give(Heard::Refused(refusals::MISSING_EDGE)),
-            18..=23 if edge => self.middle_edge(middle_edges, bits),
+            18..=23 if edge => {
+                self.distances[middle_edges - 1] = distance as u8;
+                self.middle_edge(middle_edges, bits)
+            }
             8..=14 if edge && !other_edge => None,
             _ if edge => self.give(Heard::Refused(refusals::EARLY_EDGE)),
             _ => None,
@@ -139,15 +146,17 @@ impl Reader {
     }
 
     /// "A falling middle edge is 1, a rising one 0. The 34th must fall, else refusal 3. The
-    /// frame is given at that sample, of either parity."
-    fn middle_edge(&mut self, before: u32, bits: u64) -> Option<Heard> {
+    /// frame is given at that sample, of either parity." It "shall come with the smallest and
+    /// largest distance between neighbouring middle edges" (02, Ask 3).
+    fn middle_edge(&mut self, before: usize, bits: u64) -> Option<Heard> {
         let middle_edges = before + 1;
         let falling = self.level == 0;
         if middle_edges == MIDDLE_EDGES {
             // Behind the start bit the 32 bits of the word are the lowest ones.
             let word = bits as u32;
+            let edges = Edges::of(&self.distances);
             let heard = if falling {
-                Heard::Frame(word)
+                Heard::Frame(Frame { word, edges })
             } else {
                 Heard::Refused(refusals::STOP_BIT)
             };

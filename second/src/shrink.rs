@@ -1,17 +1,20 @@
 //! Makes an input on which the two programs differ shorter, while they still differ.
 
+mod pieces;
+
+use std::ops::Range;
 use std::time::{Duration, Instant};
 
 use crate::programs::Name;
-use crate::runs;
+use pieces::{split, straight_run, tick_line, ticks, without_numbers, Piece};
 
 /// Each try runs the product once, so there is an end to it.
 const MOST_TRIES: u32 = 200;
 const LONGEST_SHRINKING: Duration = Duration::from_secs(300);
 /// What is kept back from dropping pieces for making those left smaller.
 const TRIES_FOR_NUMBERS: u32 = 80;
-
-type Piece = Vec<u8>;
+/// The same for leaving out what follows a frame's word.
+const TRIES_FOR_FRAMES: u32 = 20;
 
 struct Shrinker<'a> {
     pieces: Vec<Piece>,
@@ -32,25 +35,19 @@ pub fn shrink(name: Name, input: &[u8], differs: &mut dyn FnMut(&[u8]) -> bool) 
     shrinker.drop_blocks(TRIES_FOR_NUMBERS);
     match name {
         Name::Replay => shrinker.smaller_ticks(),
-        Name::Decode => shrinker.shorter_runs(),
+        Name::Decode => {
+            shrinker.plainer(0..shrinker.pieces.len(), straight_run);
+            shrinker.shorter_runs();
+        }
         _ => {}
     }
     // What was shortened may show a difference earlier than what it was made from.
     shrinker.cut_the_end();
-    shrinker.drop_blocks(0);
-    shrinker.pieces.concat()
-}
-
-/// Script lines, runs of one level, or words.
-fn split(name: Name, input: &[u8]) -> Vec<Piece> {
-    match name {
-        Name::Replay => input
-            .split_inclusive(|byte| *byte == b'\n')
-            .map(<[u8]>::to_vec)
-            .collect(),
-        Name::Decode => runs::of(input),
-        _ => input.chunks(4).map(<[u8]>::to_vec).collect(),
+    shrinker.drop_blocks(TRIES_FOR_FRAMES);
+    if name == Name::Replay {
+        shrinker.plainer(0..shrinker.pieces.len(), without_numbers);
     }
+    shrinker.pieces.concat()
 }
 
 impl Shrinker<'_> {
@@ -115,6 +112,23 @@ impl Shrinker<'_> {
         }
     }
 
+    /// Makes pieces plainer, all at once, or else in each half of them by itself.
+    fn plainer(&mut self, range: Range<usize>, plain: fn(&[u8]) -> Option<Piece>) {
+        if self.tries == 0 {
+            return;
+        }
+        let mut pieces = self.pieces.clone();
+        for piece in &mut pieces[range.clone()] {
+            *piece = plain(piece).unwrap_or_else(|| piece.clone());
+        }
+        if pieces == self.pieces || self.try_pieces(pieces) || range.len() == 1 {
+            return;
+        }
+        let middle = (range.start + range.end) / 2;
+        self.plainer(range.start..middle, plain);
+        self.plainer(middle..range.end, plain);
+    }
+
     /// One tick line in place of two that follow each other, then smaller numbers.
     fn smaller_ticks(&mut self) {
         let mut place = 0;
@@ -174,13 +188,4 @@ impl Shrinker<'_> {
             }
         }
     }
-}
-
-fn ticks(line: &[u8]) -> Option<u64> {
-    let line = std::str::from_utf8(line).ok()?;
-    line.strip_suffix('\n')?.strip_prefix("tick ")?.parse().ok()
-}
-
-fn tick_line(count: u64) -> Piece {
-    format!("tick {count}\n").into_bytes()
 }

@@ -1,8 +1,10 @@
 //! How often each thing occurred, so that a comparison that never tried something says so.
 
+mod carried;
 mod entry;
 mod grounds;
 mod history;
+mod read;
 mod spare;
 mod status;
 mod table;
@@ -12,8 +14,10 @@ use std::collections::{BTreeMap, BTreeSet};
 use crate::digits;
 use crate::gateway::Event;
 use crate::word;
+use carried::{Carried, Memory};
 use history::History;
 
+pub use read::Read;
 pub use spare::Spare;
 pub use status::Status;
 
@@ -50,6 +54,8 @@ pub enum Thing {
     OwnException(u8),
     Spare(Spare),
     Status(Status),
+    Read(Read),
+    Carried(Carried),
 }
 
 #[derive(Default)]
@@ -61,6 +67,8 @@ pub struct Tally {
     spoilt: BTreeSet<u8>,
     /// The thermostats' status so far.
     history: History,
+    /// The frames so far and their numbers.
+    memory: Memory,
 }
 
 impl Tally {
@@ -93,6 +101,7 @@ impl Tally {
     pub fn event(&mut self, event: &Event) {
         self.end_of_talk(event);
         self.status_event(event);
+        self.carried_event(event);
         match event {
             Event::Sent { .. } => self.count(Thing::Sent),
             Event::Passed { .. } => self.count(Thing::Passed),
@@ -135,7 +144,7 @@ impl Tally {
                     let number = number.parse().expect("own output has a number here");
                     self.count(Thing::Refusal(number));
                 }
-                [_, "frame", word] => {
+                [_, "frame", word, ..] => {
                     let word = digits::bytes(word.as_bytes()).expect("own output has a word here");
                     self.count(Thing::FrameRead);
                     self.spare_words(Spare::Read, &word);

@@ -1,12 +1,16 @@
 //! The paper's tried numbers P1 to P12, its 'Run:' numbers, the table's counts, published checksums,
-//! the spare bits of 02's Ask 1, the status of its Ask 2 and the fixed vectors, on this program alone.
+//! the spare bits of 02's Ask 1, the status of its Ask 2, the edges of its Ask 3 and the fixed vectors,
+//! on this program alone.
 
 mod bench;
+mod carried;
+mod edges;
 mod programs;
 mod samples;
 mod spare;
 mod status;
 mod tally;
+mod tally_numbers;
 mod turns;
 mod values;
 mod went_out;

@@ -1,6 +1,8 @@
 //! Fixed inputs with the output written down by hand, to which both programs are held. Most stand
 //! in vectors.txt; here are those that are too long to be typed.
 
+mod edges;
+
 use crate::digits;
 use crate::programs::Name;
 use crate::runs;
@@ -22,6 +24,7 @@ pub fn all() -> Vec<Vector> {
     vectors.extend(spare_bit_read());
     vectors.extend(frame_after_frame());
     vectors.extend(longest_messages());
+    vectors.extend(edges::all());
     vectors
 }
 
@@ -112,7 +115,7 @@ fn written() -> Vec<Vector> {
 /// "Refused at the line" (02, Ask 1), so not before it: the reader gives the frame as ever.
 fn spare_bit_read() -> Vec<Vector> {
     let input = [vec![0; 24], frame(SPARE_BITS)].concat();
-    let (title, expected) = ("Ask 1: a spare bit read", "694 frame C1193280\n");
+    let (title, expected) = ("Ask 1: a spare bit read", "694 frame C1193280 20 20\n");
     vec![vector(Name::Decode, title, input, expected)]
 }
 
@@ -123,7 +126,7 @@ fn frame_after_frame() -> Vec<Vector> {
         assert_eq!(frame.len(), samples::WRITTEN);
         [vec![0; 24], frame.clone(), vec![0; gap], frame, vec![0; 24]].concat()
     };
-    let (first, second) = ("694 frame 80190000\n", "1389 frame 80190000\n");
+    let (first, second) = ("694 frame 80190000 20 20\n", "1389 frame 80190000 20 20\n");
     vec![
         vector(
             Name::Decode,

@@ -6,6 +6,7 @@ use Prim.Native.Nat.{ℕ}
 use mathlib.Core.Path.{_≡_}
 use mathlib.Core.Bool.{true}
 use Rattle.word.specs.declared.Frame.{Frame}
+use Rattle.word.specs.Frame.{unmeasured}
 use Rattle.turns.specs.Line.{Line}
 use Rattle.turns.specs.declared.Query.{Query}
 use Rattle.turns.specs.declared.Talker.the-variants.{Modbus}
@@ -14,7 +15,7 @@ use Rattle.turns.specs.Events.{Note, sent, exception, noteOf}
 use Rattle.turns.specs.Cases.{plain, ticksLater}
 
 abbrev pub frame : ℕ → Frame
-frame w = record { word = w }
+frame w = unmeasured w
 
 -- the caretaker reads id 0 alone, and id 70
 abbrev pub poll-0 : Query

@@ -9,9 +9,10 @@
 //   17       the line of a frame
 //   18-21    the word of a frame, or of the frame that the samples are of
 //   22       the length of a message, up to 32
+//   23-24    how straight the frame's edges were, smallest and largest
 //   32-63    the message
-//   64-127   eight events of set-up, 8 bytes each: `t`, `h`, `b`, `m` or nothing; the line; two unused; the word, or for
-//            `t` how often
+//   64-127   eight events of set-up, 8 bytes each: `t`, `h`, `b`, `m` or nothing; the line; smallest and
+//            largest; the word, or for `t` how often
 use gateway::Gateway;
 use gateway::Told;
 use libc::STDIN_FILENO;
@@ -81,14 +82,23 @@ fn ticks(start: Gateway, again: u8, n: u32, room: &mut [u8]) -> u32 {
     count
 }
 
+// The frame that comes again and again.
+fn frame_in(block: &[u8]) -> Frame {
+    Frame {
+        word: word_at(block, 18),
+        shortest: byte_at(block, 23),
+        longest: byte_at(block, 24),
+    }
+}
+
 fn frames(start: Gateway, block: &[u8], n: u32, room: &mut [u8]) -> u32 {
     let line = byte_at(block, 17);
-    let word = word_at(block, 18);
+    let frame = frame_in(block);
     let mut gateway = start;
     let mut count: u32 = 0;
     let mut left = n;
     while left > 0 {
-        let m = gateway.boiler(line, Frame { word: word }, room);
+        let m = gateway.boiler(line, frame, room);
         let said = m.told;
         count = told(count, said);
         gateway = m.gateway;
@@ -99,12 +109,12 @@ fn frames(start: Gateway, block: &[u8], n: u32, room: &mut [u8]) -> u32 {
 
 fn held(start: Gateway, block: &[u8], n: u32) -> u32 {
     let line = byte_at(block, 17);
-    let word = word_at(block, 18);
+    let frame = frame_in(block);
     let mut gateway = start;
     let mut count: u32 = 0;
     let mut left = n;
     while left > 0 {
-        let m = gateway.thermostat(line, Frame { word: word });
+        let m = gateway.thermostat(line, frame);
         let said = m.told;
         count = told(count, said);
         gateway = m.gateway;
@@ -149,11 +159,16 @@ fn ticked(before: Gateway, n: u32, room: &mut [u8]) -> Gateway {
 fn happened(before: Gateway, block: &[u8], at: u8, message: &[u8], room: &mut [u8]) -> Gateway {
     let kind = byte_at(block, at as usize);
     let line = byte_at(block, at as usize + 1);
-    let word = word_at(block, at as usize + 4);
+    let often = word_at(block, at as usize + 4);
+    let frame = Frame {
+        word: often,
+        shortest: byte_at(block, at as usize + 2),
+        longest: byte_at(block, at as usize + 3),
+    };
     match kind {
-        b't' => ticked(before, word, room),
-        b'h' => before.thermostat(line, Frame { word: word }).gateway,
-        b'b' => before.boiler(line, Frame { word: word }, room).gateway,
+        b't' => ticked(before, often, room),
+        b'h' => before.thermostat(line, frame).gateway,
+        b'b' => before.boiler(line, frame, room).gateway,
         b'm' => before.message(message, room).gateway,
         _ => before,
     }

@@ -18,11 +18,13 @@ use Rattle.print.proofs.Added.{all-append, left-from}
 use Rattle.otdecode.specs.Lines.{shownOf, shownIf, nextPlace, shownIn, lastPlace}
 
 -- the text of a frame's line and of a refusal's says just that line
-pub frame-shown : (index : ℕ) (f : Word) → index < 2 ^ 64 → says (puts emptyText (shownOf index (Frame f))) ≡ shownOf index (Frame f)
+pub frame-shown : (index : ℕ) (f : Word) → index < 2 ^ 64 → f .shortest < 2 ^ 8 → f .longest < 2 ^ 8 → says (puts emptyText (shownOf index (Frame f))) ≡ shownOf index (Frame f)
 unfolding shownOf
-frame-shown index f h =
+frame-shown index f h s g =
     let i = decimal-short 19 index (omega arith) in
     let w = hex-length 8 (f .word) in
+    let a = decimal-short 2 (f .shortest) (omega arith) in
+    let b = decimal-short 2 (f .longest) (omega arith) in
     let short : length (shownOf index (Frame f)) ≤ 120 = simp length-append (omega arith) in
     says-puts (shownOf index (Frame f)) short
 

@@ -1,4 +1,5 @@
--- The line of an answer at a sample's place, in ASCII: `INDEX frame XXXXXXXX`, `INDEX refused N`, none where there is no answer.
+-- The line of an answer at a sample's place, in ASCII: `INDEX frame XXXXXXXX S G`, with the smallest and the largest distance between
+-- neighbouring middle edges (02, Ask 3), `INDEX refused N`, none where there is no answer.
 -- Assumes nothing: these are definitions.
 use Prim.Native.Nat.{ℕ, _+_, _%_, _^_}
 use mathlib.Core.Bool.{Bool, true, false, cond}
@@ -17,7 +18,9 @@ refusedWord = 32 ∷ 114 ∷ 101 ∷ 102 ∷ 117 ∷ 115 ∷ 101 ∷ 100 ∷ 32 
 
 unfoldable pub shownOf : ℕ → Answer → List ℕ
 shownOf index Nothing = []
-shownOf index (Frame f) = decimalOf index ++ (frameWord ++ (hexOf 8 (f .word) ++ (10 ∷ [])))
+shownOf index (Frame f) =
+    decimalOf index
+    ++ (frameWord ++ (hexOf 8 (f .word) ++ (32 ∷ (decimalOf (f .shortest) ++ (32 ∷ (decimalOf (f .longest) ++ (10 ∷ [])))))))
 shownOf index (Refused n) = decimalOf index ++ (refusedWord ++ (decimalOf n ++ (10 ∷ [])))
 
 -- which answers have a line

@@ -12,7 +12,9 @@ pub(crate) fn line(index: u64, answer: Answer) -> Text
         Answer::Nothing => Text::empty(),
         Answer::Frame(f) => {
             let t = Text::empty().decimal(index).put(b" frame ");
-            t.hex(f.word, 8).push(b'\n')
+            let w = t.hex(f.word, 8).push(b' ');
+            let s = w.decimal(f.shortest as u64).push(b' ');
+            s.decimal(f.longest as u64).push(b'\n')
         }
         Answer::Refused(n) => {
             let t = Text::empty().decimal(index).put(b" refused ");

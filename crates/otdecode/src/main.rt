@@ -1,5 +1,6 @@
 // otdecode: reads samples from standard input, one byte each, and prints a line for each answer of the sample reader:
-// `INDEX frame XXXXXXXX` or `INDEX refused N`. INDEX is the sample's place, from 0. CASES.md says what the file `stdin` holds.
+// `INDEX frame XXXXXXXX S G` or `INDEX refused N`. INDEX is the sample's place, from 0; S and G are the smallest and the largest distance
+// between neighbouring middle edges. CASES.md says what the file `stdin` holds.
 mod line;
 
 use libc::STDIN_FILENO;

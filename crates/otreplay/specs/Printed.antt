@@ -33,8 +33,8 @@ abbrev pub wrongOf : Event → Bool
 wrongOf Skip = false
 wrongOf Wrong = true
 wrongOf (Ticks n) = false
-wrongOf (Thermostat line word) = false
-wrongOf (Boiler line word) = false
+wrongOf (Thermostat line frame) = false
+wrongOf (Boiler line frame) = false
 wrongOf (Message count) = false
 wrongOf (Room n) = false
 

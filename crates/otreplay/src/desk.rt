@@ -7,7 +7,6 @@ use gateway::Gateway;
 use gateway::Moved;
 use gateway::Told;
 use script::Event;
-use word::Frame;
 ghost use Prim.Native.Nat.{_≤_};
 
 // The box, its time in ticks, the size of the rooms that are lent to it, how much is held of the script's line under way, and how much of
@@ -96,8 +95,8 @@ fn ticks_in(e: Event) -> u32 {
 // A frame or a message; a message's bytes stand in front of `bytes`. Nothing moves at any other event.
 fn moved(gateway: Gateway, e: Event, bytes: &[u8], room: &mut [u8]) -> Moved {
     match e {
-        Event::Thermostat(line, word) => gateway.thermostat(line, Frame { word: word }),
-        Event::Boiler(line, word) => gateway.boiler(line, Frame { word: word }, room),
+        Event::Thermostat(line, frame) => gateway.thermostat(line, frame),
+        Event::Boiler(line, frame) => gateway.boiler(line, frame, room),
         Event::Message(count) => {
             let n = at_most(count, bytes.len());
             gateway.message(&bytes[..n], room)

@@ -5,10 +5,10 @@ pub use samples::Phase;
 use word::Frame;
 ghost use mathlib.Core.Path.{_≡_};
 ghost use mathlib.Core.Bool.{Bool·beq};
-ghost use Prim.Native.Nat.{_+_, _<_};
+ghost use Prim.Native.Nat.{_+_, _<_, min, max};
 ghost use Rattle.reader.specs.Reads.{readerOf, stepIs};
 ghost use Rattle.samples.specs.declared.Phase.the-variants.{Bits};
-ghost use Rattle.samples.specs.Reading.{freshOf, goesOn, gives, waitedOf, startOf, pastEdge, fartherOf, bitOf, withBit, middleOf, nextOf, stepOf};
+ghost use Rattle.samples.specs.Reading.{freshOf, goesOn, gives, waitedOf, startOf, pastEdge, fartherOf, bitOf, measured as measuredOf, withBit, middleOf, nextOf, stepOf};
 
 pub struct Reader {
     pub phase: Phase,
@@ -120,7 +120,16 @@ fn started(before: u8, active: bool) -> Step
     if distance < Reader::START_FROM {
         return answered(Answer::Refused(1));
     }
-    past_edge(1, Frame { word: 0 }, false)
+    // No bit yet, and no distance: the first one is the smallest and the largest.
+    past_edge(
+        1,
+        Frame {
+            word: 0,
+            shortest: 255,
+            longest: 0,
+        },
+        false,
+    )
 }
 
 // Just at a middle edge: the next distance counts from here, so that errors don't add up.
@@ -161,7 +170,7 @@ fn between(m: Middle, active: bool) -> Step
         return farther(m, distance, active, m.other);
     }
     if distance >= Reader::MIDDLE_FROM {
-        return at_middle(m, active);
+        return at_middle(m, distance, active);
     }
     if m.other {
         return answered(Answer::Refused(1));
@@ -199,14 +208,43 @@ fn with_bit(f: Frame, active: bool) -> Frame
     let bit = bit_of(active);
     Frame {
         word: f.word % 0x8000_0000 * 2 + bit,
+        shortest: f.shortest,
+        longest: f.longest,
     }
 }
 
-// A middle edge to the level `active`. The 34th ends the frame; an earlier one is the word's next bit, below those before it.
-fn at_middle(m: Middle, active: bool) -> Step
-    ensures { λ r. ⌜ stepIs r ≡ middleOf m active ⌝ }
+fn smaller(a: u8, b: u8) -> u8
+    ensures { λ r. ⌜ r ≡ min a b ⌝ }
 {
-    let frame = m.frame;
+    if a < b { a } else { b }
+}
+
+fn larger(a: u8, b: u8) -> u8
+    ensures { λ r. ⌜ r ≡ max a b ⌝ }
+{
+    if a < b { b } else { a }
+}
+
+// How straight the edges were, with one distance more.
+fn measured(f: Frame, distance: u8) -> Frame
+    ensures { λ r. ⌜ r ≡ measuredOf f distance ⌝ }
+{
+    let shortest = smaller(f.shortest, distance);
+    let longest = larger(f.longest, distance);
+    Frame {
+        word: f.word,
+        shortest: shortest,
+        longest: longest,
+    }
+}
+
+// A middle edge to the level `active`, so far from the one before. The 34th ends the frame; an earlier one is the word's next bit, below
+// those before it.
+fn at_middle(m: Middle, distance: u8, active: bool) -> Step
+    ensures { λ r. ⌜ stepIs r ≡ middleOf m distance active ⌝ }
+{
+    let before = m.frame;
+    let frame = measured(before, distance);
     if m.edges >= Reader::EDGES - 1 {
         if active {
             return answered(Answer::Refused(3));

@@ -29,7 +29,7 @@ forgotten r q s t h g l = ap (λ (x : Reader). answersOf x l) (again r s h ∙ s
 
 -- what is written is read, also by a reader that has just answered
 pub read-back-again : (r : Reader) (s : ℕ) → Answered r s → (w : ℕ) → w < 2 ^ 32
-    → answersOf (stepOf r s .reader) (replicate 24 0 ++ samplesOf w) ≡ none (24 + 670) ++ (frame w ∷ none 9)
+    → answersOf (stepOf r s .reader) (replicate 24 0 ++ samplesOf w) ≡ none (24 + 670) ++ (frame w 20 20 ∷ none 9)
 read-back-again r s h w f = ap (λ (q : Reader). answersOf q (replicate 24 0 ++ samplesOf w)) (again r s h) ∙ read-back w f
 
 -- "1, 2, 3, 4: samples, as above": whatever the reader holds and whatever the sample is, a refusal has one of these numbers

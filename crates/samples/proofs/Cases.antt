@@ -11,7 +11,7 @@ use Rattle.samples.specs.declared.Phase.the-variants.{Waiting, Start, Bi
 use Rattle.samples.specs.declared.Answer.the-variants.{Frame}
 use Rattle.samples.specs.Reader.{Reader}
 use Rattle.samples.specs.Answers.{early, late, no-stop, no-sample}
-use Rattle.samples.specs.Reading.{gives, goesOn, waitedOf, startOf, begun, pastEdge, fartherOf, bitOf, withBit, middleOf, nextOf, takenBy, stepOf}
+use Rattle.samples.specs.Reading.{gives, goesOn, waitedOf, startOf, begun, pastEdge, fartherOf, bitOf, measured, withBit, middleOf, nextOf, takenBy, stepOf}
 
 and-false : (b : Bool) → b && false ≡ false
 and-false true = refl
@@ -51,16 +51,16 @@ module _ (d : ℕ) where
   unfolding startOf
   start-middle h g = simp (le-leb 8 d h, le-leb d 14 g)
 
-module _ (m : Middle) (a : Bool) where
-  pub stop-rises : 33 ≤ m .edges → a ≡ true → middleOf m a ≡ gives no-stop
+module _ (m : Middle) (d : ℕ) (a : Bool) where
+  pub stop-rises : 33 ≤ m .edges → a ≡ true → middleOf m d a ≡ gives no-stop
   unfolding middleOf
   stop-rises h f = simp (le-ltb (m .edges + 1) 34 (omega arith), f)
 
-  pub stop-falls : 33 ≤ m .edges → a ≡ false → middleOf m a ≡ gives (Frame (m .frame))
+  pub stop-falls : 33 ≤ m .edges → a ≡ false → middleOf m d a ≡ gives (Frame (measured (m .frame) d))
   unfolding middleOf
   stop-falls h f = simp (le-ltb (m .edges + 1) 34 (omega arith), f)
 
-  pub next-bit : m .edges < 33 → middleOf m a ≡ goesOn (Bits (pastEdge (m .edges + 1) (withBit (m .frame) a) a))
+  pub next-bit : m .edges < 33 → middleOf m d a ≡ goesOn (Bits (pastEdge (m .edges + 1) (withBit (measured (m .frame) d) a) a))
   unfolding middleOf
   next-bit h = simp (lt-ltb (m .edges + 1) 34 (omega arith))
 
@@ -73,7 +73,7 @@ module _ (m : Middle) (d : ℕ) (a : Bool) where
   unfolding nextOf
   no-edge h e = simp (e, le-ltb 23 d h)
 
-  pub middle-edge : 18 ≤ d → d ≤ 23 → Bool·beq a (m .active) ≡ false → nextOf m d a ≡ middleOf m a
+  pub middle-edge : 18 ≤ d → d ≤ 23 → Bool·beq a (m .active) ≡ false → nextOf m d a ≡ middleOf m d a
   unfolding nextOf
   middle-edge g h e = simp (e, le-leb 18 d g, le-leb d 23 h)
 

@@ -6,6 +6,7 @@ pub mod Cases
 pub mod Steps
 pub mod Runs
 pub mod Stretches
+pub mod Straight
 pub mod Tolerant
 pub mod Lengths
 pub mod Room

@@ -1,14 +1,14 @@
--- Nothing else is read: where a frame is given, the samples since the last answer end with a frame at 01's distances, and its word is
--- that of its middle edges.
+-- Nothing else is read: where a frame is given, the samples up to there end with a frame at 01's distances; its word is that of its middle
+-- edges, and its two numbers are the smallest and the largest of their distances (02, Ask 3), so they lie between 18 and 23.
 -- Assumes nothing.
 use mathlib.Core.Path.{_≡_, refl, sym, ap, _∙_, subst}
 use mathlib.Core.Bool.{Bool, true, false, not}
-use mathlib.Core.List.{List, [], _∷_, _++_, append-assoc}
+use mathlib.Core.List.{List, [], _∷_, _++_, append-assoc, append-nil}
 use mathlib.Core.Logic.{_⊎_, inl, inr}
 use Prim.Native.Nat.{ℕ, zero, suc, _+_, _-_, _≤_, _<_}
 use native.Mathlib.Decide.{decLt}
 use native.Mathlib.Omega.{arith}
-use lib.ListN.{length, replicate}
+use lib.ListN.{length, getD, take, replicate}
 use Rattle.word.proofs.Clash.{clash}
 use Rattle.word.specs.declared.Frame.{Frame}
 use Rattle.samples.specs.declared.Phase.the-variants.{Bits}
@@ -16,9 +16,11 @@ use Rattle.samples.specs.declared.Answer.{Answer}
 use Rattle.samples.specs.declared.Answer.the-variants as answer
 use Rattle.samples.specs.Reader.{Reader, Step}
 use Rattle.samples.specs.Reading.{freshOf, stepOf}
-use Rattle.samples.specs.Run.{answersOf, none, Last}
+use Rattle.samples.specs.Run.{answersOf, answerAt, Answered}
 use Rattle.samples.specs.Edges.{levelOf, Stretch, plain, crossed, AllAllowed, levelAfter, legSamples, levelsOf, Heard}
 use Rattle.samples.proofs.Cases.{bad-sample}
+use Rattle.samples.proofs.Straight.{between}
+use Rattle.samples.proofs.Again.{again}
 use Rattle.samples.proofs.Stretches.{not-not, md, mid, same-level, at-second, at-early, at-gap, at-24, at-other, Open, legEnd, soFar}
 use Rattle.samples.proofs.Told.{Told, waits, starts, follows, Next, goes, refuses, snoc, behind, wait-next, start-next}
 use Rattle.samples.proofs.ToldEdge.{edge-next}
@@ -126,23 +128,30 @@ told-next h r x (waits b n g e f) = subst (λ (q : Reader). Next h x (stepOf q x
 told-next h r x (starts b d e f) = subst (λ (q : Reader). Next h x (stepOf q x)) (sym f) (start-next h b d x e)
 told-next h r x (follows b s l t hs hl len o e f) = subst (λ (q : Reader). Next h x (stepOf q x)) (sym f) (follow-next h b s l hs hl len t x o e)
 
-abbrev headOf : List Answer → Answer
-headOf [] = answer.Nothing
-headOf (x ∷ l) = x
+-- after an answer the reader is fresh, and nothing of the samples is told
+next-told : (h : List ℕ) (r : Reader) (x : ℕ) → Told h r → Told (h ++ (x ∷ [])) (stepOf r x .reader)
+next-told h r x t = go (stepOf r x .answer) refl
+  where
+    fresh : Answered r x → Told (h ++ (x ∷ [])) (stepOf r x .reader)
+    fresh a = waits (h ++ (x ∷ [])) 0 (omega arith) (sym (append-nil (h ++ (x ∷ [])))) (again r x a)
 
-abbrev tailOf : List Answer → List Answer
-tailOf [] = []
-tailOf (x ∷ l) = l
+    go : (y : Answer) → stepOf r x .answer ≡ y → Told (h ++ (x ∷ [])) (stepOf r x .reader)
+    go answer.Nothing e = told-next h r x t .on e
+    go (answer.Frame f) e = fresh (λ z. clash cc)
+    go (answer.Refused n) e = fresh (λ z. clash cc)
 
-from : (n : ℕ) (h : List ℕ) (r : Reader) (l : List ℕ) (f : Frame) → Told h r → answersOf r l ≡ none n ++ (answer.Frame f ∷ []) → Heard (h ++ l) f
+from : (h : List ℕ) (r : Reader) (l : List ℕ) (n : ℕ) (f : Frame) → Told h r → getD (answersOf r l) n answer.Nothing ≡ answer.Frame f →
+    Heard (h ++ take (suc n) l) f
 unfolding answersOf
-from zero h r [] f t e = clash cc
-from (suc n) h r [] f t e = clash cc
-from zero h r (x ∷ []) f t e = told-next h r x t .given f (ap headOf e)
-from zero h r (x ∷ y ∷ l) f t e = let z = ap tailOf e in clash cc
-from (suc n) h r (x ∷ l) f t e =
-    subst (λ (y : List ℕ). Heard y f) (append-assoc h (x ∷ []) l)
-    (from n (h ++ (x ∷ [])) (stepOf r x .reader) l f (told-next h r x t .on (ap headOf e)) (ap tailOf e))
+from h r [] n f t e = clash cc
+from h r (x ∷ l) zero f t e = told-next h r x t .given f e
+from h r (x ∷ l) (suc n) f t e =
+    subst (λ (y : List ℕ). Heard y f) (append-assoc h (x ∷ []) (take (suc n) l)) (from (h ++ (x ∷ [])) (stepOf r x .reader) l n f (next-told h r x t) e)
 
-pub only : (l : List ℕ) (f : Frame) → Last l (answer.Frame f) → Heard l f
-only l f e = from (length l - 1) [] freshOf l f (waits [] 0 (omega arith) refl refl) e
+-- whatever samples come: where a frame is given, at sample number n, the samples up to there end with that frame
+pub only : (l : List ℕ) (n : ℕ) (f : Frame) → answerAt l n ≡ answer.Frame f → Heard (take (suc n) l) f
+only l n f e = from [] freshOf l n f (waits [] 0 (omega arith) refl refl) e
+
+-- and "The two lie between 18 and 23" (02, Ask 3)
+pub straight : (l : List ℕ) (n : ℕ) (f : Frame) → answerAt l n ≡ answer.Frame f → (18 ≤ f .shortest) × (f .shortest ≤ f .longest) × (f .longest ≤ 23)
+straight l n f e = let h = only l n f e in between (h .bits) (h .stop) f (h .bits-allowed) (h .stop-allowed) (h .frame)

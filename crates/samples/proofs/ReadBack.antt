@@ -1,9 +1,9 @@
 -- What is written is read: the written samples are a line whose stretches are all of 20 samples, with the other edge, where there is one, at 10.
 -- Assumes nothing.
-use mathlib.Core.Path.{_≡_, refl, sym, ap, ap₂, _∙_}
+use mathlib.Core.Path.{_≡_, refl, sym, ap, ap₂, _∙_, subst}
 use mathlib.Core.Bool.{Bool, true, false}
 use mathlib.Core.List.{List, [], _∷_, _++_, append-assoc}
-use Prim.Native.Nat.{ℕ, zero, suc, _+_, _*_, _-_, _/_, _%_, _^_, _<_}
+use Prim.Native.Nat.{ℕ, zero, suc, _+_, _*_, _-_, _/_, _%_, _^_, _≤_, _<_}
 use native.Mathlib.Nat.{pow-suc, div-one, div-div-eq-div-mul, mod-lt, zero-lt-suc}
 use native.Mathlib.Omega.{arith}
 use lib.ListN.{length, length-append, replicate}
@@ -13,11 +13,12 @@ use Rattle.samples.specs.Answers.{frame}
 use Rattle.samples.specs.Reading.{freshOf, waitedOf, stepOf}
 use Rattle.samples.specs.Run.{answersOf, afterOf, none}
 use Rattle.samples.specs.Edges.{levelOf, Stretch, plain, crossed, Allowed, AllAllowed, turned, levelAfter, stretchSamples, stretchesSamples}
-use Rattle.samples.specs.Edges.{signalOf, levelsOf, edgeBits, numberFrom}
+use Rattle.samples.specs.Edges.{signalOf, levelsOf, edgeBits, numberFrom, Each, FrameOf}
 use Rattle.samples.specs.Written.{bitSamples, inSamples, bitsOf, samplesOf}
 use Rattle.samples.proofs.Lengths.{length-bits, length-samples}
 use Rattle.samples.proofs.Runs.{answers-append}
 use Rattle.samples.proofs.Stretches.{level-last}
+use Rattle.samples.proofs.Straight.{steady}
 use Rattle.samples.proofs.Tolerant.{tolerant, fresh-again}
 
 -- the stretch to a bit, from the level before it
@@ -45,6 +46,14 @@ allowed false (suc b ∷ l) = (omega arith, allowed false l)
 length-stretches : (a : Bool) (l : List ℕ) → length (stretchesTo a l) ≡ length l
 length-stretches a [] = refl
 length-stretches a (b ∷ l) = ap suc (length-stretches (turned a (stretchTo a b)) l)
+
+-- each of 20 samples
+twenty : (a : Bool) (l : List ℕ) → Each (λ d. d ≡ 20) (stretchesTo a l)
+twenty a [] = tt
+twenty true (zero ∷ l) = (refl, twenty true l)
+twenty false (zero ∷ l) = (refl, twenty true l)
+twenty true (suc b ∷ l) = (refl, twenty false l)
+twenty false (suc b ∷ l) = (refl, twenty false l)
 
 -- the bits of the stretches to them
 bits-of-stretches : (a : Bool) (l : List ℕ) → Binary l → edgeBits a (stretchesTo a l) ≡ l
@@ -150,20 +159,30 @@ module _ (w : ℕ) (fits : w < 2 ^ 32) where
       let z : w / 2 ^ 32 ≡ 0 = omega arith in
       ap (numberFrom 0) (bits-of-stretches false bits (binary 32 w)) ∙ ap (λ (x : ℕ). numberFrom x bits) (sym z) ∙ number-back 32 w
 
-  read-line : answersOf freshOf line ≡ none 694 ++ (frame w ∷ [])
+  alike : Each (λ d. d ≡ 20) (ways ++ (last ∷ []))
+  alike = subst (Each (λ d. d ≡ 20)) (stretches-to-last false bits) (twenty false (bits ++ (1 ∷ [])))
+
+  the-frame : FrameOf ways last (record { word = w; shortest = 20; longest = 20 })
+  the-frame = record {
+    word = the-word;
+    shortest = steady (λ x d. x ≤ d) 20 ways last (omega arith) alike;
+    longest = steady (λ x d. d ≤ x) 20 ways last (omega arith) alike;
+  }
+
+  read-line : answersOf freshOf line ≡ none 694 ++ (frame w 20 20 ∷ [])
   read-line =
       let k : length line - 1 ≡ 694 = omega (arith, length-line) in
-      tolerant 0 10 ways last (omega arith) (omega arith) (allowed false bits) (last-allowed level) length-32 (falls level)
-      ∙ ap₂ (λ (k x : ℕ). none k ++ (frame x ∷ [])) k the-word
+      tolerant 0 10 ways last (omega arith) (omega arith) (allowed false bits) (last-allowed level) length-32 _ the-frame (falls level)
+      ∙ ap (λ (k : ℕ). none k ++ (frame w 20 20 ∷ [])) k
 
   after-line : afterOf freshOf line ≡ freshOf
   after-line = fresh-again 0 10 ways last (omega arith) (omega arith) (allowed false bits) (last-allowed level) length-32
 
-  -- 24 idle samples and then the word's: no answer to the first 24 + 670, the frame at the next, and none to the 9 after it
-  pub read-back : answersOf freshOf (replicate 24 0 ++ samplesOf w) ≡ none (24 + 670) ++ (frame w ∷ none 9)
+  -- 24 idle samples and then the word's: no answer to the first 24 + 670, the frame at the next, its edges 20 apart, and none to the 9 after it
+  pub read-back : answersOf freshOf (replicate 24 0 ++ samplesOf w) ≡ none (24 + 670) ++ (frame w 20 20 ∷ none 9)
   read-back =
       ap (λ (y : List ℕ). answersOf freshOf (replicate 24 0 ++ y)) as-line
       ∙ ap (answersOf freshOf) (sym (append-assoc (replicate 24 0) (signalOf 10 (ways ++ (last ∷ []))) (replicate 9 0)))
       ∙ answers-append freshOf line (replicate 9 0)
       ∙ ap₂ (λ (y z : List Answer). y ++ z) read-line (ap (λ (q : Reader). answersOf q (replicate 9 0)) after-line ∙ idle-9)
-      ∙ append-assoc (none 694) (frame w ∷ []) (none 9)
+      ∙ append-assoc (none 694) (frame w 20 20 ∷ []) (none 9)

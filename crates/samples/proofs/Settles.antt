@@ -12,7 +12,7 @@ use Rattle.samples.specs.declared.Phase.{Phase}
 use Rattle.samples.specs.declared.Phase.the-variants.{Waiting, Start, Bits}
 use Rattle.samples.specs.declared.Answer.{Answer}
 use Rattle.samples.specs.Reader.{Reader, Step}
-use Rattle.samples.specs.Reading.{begun, gives, goesOn, withBit, waitedOf, middleOf, stepOf}
+use Rattle.samples.specs.Reading.{begun, gives, goesOn, measured, withBit, waitedOf, middleOf, stepOf}
 use Rattle.samples.specs.Run.{afterOf}
 use Rattle.samples.proofs.Cases.{more-idle, idle-enough, start-late, start-early, start-middle, stop-falls, next-bit, a-sample}
 use Rattle.samples.proofs.Stretches.{md, mid, starting, same-level, at-24, at-middle, at-second, at-early, at-gap, at-other}
@@ -67,14 +67,14 @@ idle-level (suc j) k f d o h g = go (decLt d 23) (λ (l : d < 23). idle-level j 
 falls : (k : ℕ) (f : Frame) (d : ℕ) (o : Bool) → 17 ≤ d → d < 23 → Settles 25 (mid k f d true o)
 falls k f d o g h = go (decLt k 33)
   where
-    edge : stepOf (mid k f d true o) 0 ≡ middleOf (md k f d true o) false
+    edge : stepOf (mid k f d true o) 0 ≡ middleOf (md k f d true o) (d + 1) false
     edge = at-middle k f d true o g h
 
     go : Dec (k < 33) → Settles 25 (mid k f d true o)
-    go (no l) = answers 24 (mid k f d true o) (edge ∙ stop-falls (md k f d true o) false (omega arith) refl)
+    go (no l) = answers 24 (mid k f d true o) (edge ∙ stop-falls (md k f d true o) (d + 1) false (omega arith) refl)
     go (yes l) =
-        after-idle 24 (mid k f d true o) (edge ∙ next-bit (md k f d true o) false l)
-        (idle-level 24 (k + 1) (withBit f false) 0 false (omega arith) (omega arith))
+        after-idle 24 (mid k f d true o) (edge ∙ next-bit (md k f d true o) (d + 1) false l)
+        (idle-level 24 (k + 1) (withBit (measured f (d + 1)) false) 0 false (omega arith) (omega arith))
 
 -- .. or before 18 the other edge, or one too many
 before-18 : (k : ℕ) (f : Frame) (d : ℕ) (o : Bool) → d < 17 → Dec (d < 7) → Dec (d < 14) → Settles 25 (mid k f d true o)

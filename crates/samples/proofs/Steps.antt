@@ -19,9 +19,9 @@ module _ (P : Step → Type 0) (on : (p : Phase) → P (goesOn p)) (frame : (f :
   either true x y h g = h
   either false x y h g = g
 
-  middle : (m : Middle) (a : Bool) → P (middleOf m a)
+  middle : (m : Middle) (d : ℕ) (a : Bool) → P (middleOf m d a)
   unfolding middleOf
-  middle m a = either (ltb (m .edges + 1) 34) _ _ (on _) (either a _ _ (refused _ (omega arith) (omega arith)) (frame _))
+  middle m d a = either (ltb (m .edges + 1) 34) _ _ (on _) (either a _ _ (refused _ (omega arith) (omega arith)) (frame _))
 
   start : (d : ℕ) (a : Bool) → P (startOf d a)
   unfolding startOf
@@ -34,7 +34,7 @@ module _ (P : Step → Type 0) (on : (p : Phase) → P (goesOn p)) (frame : (f :
   unfolding nextOf
   next m d a =
       let edge = not (Bool·beq a (m .active)) in
-      either (edge && within 18 23 d) _ _ (middle m a)
+      either (edge && within 18 23 d) _ _ (middle m d a)
       (either (edge && (not (m .other) && within 8 14 d)) _ _ (on _)
       (either (edge && leb d 17) _ _ (refused _ (omega arith) (omega arith))
       (either (ltb 23 d) _ _ (refused _ (omega arith) (omega arith)) (on _))))

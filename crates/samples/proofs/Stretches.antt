@@ -13,10 +13,10 @@ use Rattle.samples.specs.declared.Middle.{Middle}
 use Rattle.samples.specs.declared.Phase.the-variants.{Waiting, Start, Bits}
 use Rattle.samples.specs.Reader.{Reader}
 use Rattle.samples.specs.Answers.{early, late}
-use Rattle.samples.specs.Reading.{freshOf, gives, goesOn, begun, bitOf, withBit, middleOf, nextOf, waitedOf, stepOf}
+use Rattle.samples.specs.Reading.{freshOf, gives, goesOn, begun, bitOf, measured, withBit, middleOf, nextOf, waitedOf, stepOf}
 use Rattle.samples.specs.Run.{answersOf, afterOf}
 use Rattle.samples.specs.Edges.{levelOf, Stretch, plain, crossed, Allowed, AllAllowed, turned, levelAfter, legSamples, stretchSamples}
-use Rattle.samples.specs.Edges.{stretchesSamples, levelsOf, edgeBits, numberFrom}
+use Rattle.samples.specs.Edges.{stretchesSamples, levelsOf, edgeBits, numberFrom, distanceOf}
 use Rattle.samples.proofs.Cases.{idle-enough, first-edge, start-on, start-middle, no-edge, other-edge, middle-edge, second-other, before-8}
 use Rattle.samples.proofs.Cases.{past-14, too-late, next-bit, bit-small, a-sample}
 use Rattle.samples.proofs.Runs.{Quiet, stay, join, one}
@@ -52,7 +52,7 @@ module _ (k : ℕ) (f : Frame) (d : ℕ) (a o : Bool) where
   pub same-level : d < 23 → stepOf (mid k f d a o) (levelOf a) ≡ goesOn (Bits (md k f (d + 1) a o))
   same-level h = level-sample k f d a o a ∙ no-edge (md k f d a o) (d + 1) a (omega arith) (same a)
 
-  pub at-middle : 17 ≤ d → d < 23 → stepOf (mid k f d a o) (levelOf (not a)) ≡ middleOf (md k f d a o) (not a)
+  pub at-middle : 17 ≤ d → d < 23 → stepOf (mid k f d a o) (levelOf (not a)) ≡ middleOf (md k f d a o) (d + 1) (not a)
   at-middle g h = level-sample k f d a o (not a) ∙ middle-edge (md k f d a o) (d + 1) (not a) (omega arith) (omega arith) (unlike a)
 
   pub at-second : d < 17 → o ≡ true → stepOf (mid k f d a o) (levelOf (not a)) ≡ gives early
@@ -111,34 +111,41 @@ not-not false = refl
 
 -- the middle edge at the end of a stretch
 pub leg-edge : (k : ℕ) (f : Frame) (a : Bool) (t : Stretch) → Allowed t →
-    stepOf (legEnd k f a t) (levelOf (turned a t)) ≡ middleOf (afterLeg k f a t) (turned a t)
-leg-edge k f a (plain d) h = at-middle k f (d - 1) a false (omega arith) (omega arith)
+    stepOf (legEnd k f a t) (levelOf (turned a t)) ≡ middleOf (afterLeg k f a t) (distanceOf t) (turned a t)
+leg-edge k f a (plain d) h =
+    let n : d - 1 + 1 ≡ d = omega arith in
+    at-middle k f (d - 1) a false (omega arith) (omega arith) ∙ ap (λ (y : ℕ). middleOf (md k f (d - 1) a false) y (not a)) n
 leg-edge k f a (crossed e d) h =
-    subst (λ (b : Bool). stepOf (mid k f (d - 1) (not a) true) (levelOf b) ≡ middleOf (md k f (d - 1) (not a) true) b) (not-not a)
-    (at-middle k f (d - 1) (not a) true (omega arith) (omega arith))
+    let n : d - 1 + 1 ≡ d = omega arith in
+    subst (λ (b : Bool). stepOf (mid k f (d - 1) (not a) true) (levelOf b) ≡ middleOf (md k f (d - 1) (not a) true) d b) (not-not a)
+    (at-middle k f (d - 1) (not a) true (omega arith) (omega arith) ∙ ap (λ (y : ℕ). middleOf (md k f (d - 1) (not a) true) y (not (not a))) n)
+
+-- the frame one middle edge on, at the end of the stretch t
+abbrev pub oneOn : Frame → Bool → Stretch → Frame
+oneOn f a t = withBit (measured f (distanceOf t)) (turned a t)
 
 -- a whole stretch is the next bit
 stretch : (k : ℕ) (f : Frame) (a : Bool) (t : Stretch) → Allowed t → k < 33
-    → Quiet (mid k f 0 a false) (stretchSamples a t) (mid (k + 1) (withBit f (turned a t)) 0 (turned a t) false)
+    → Quiet (mid k f 0 a false) (stretchSamples a t) (mid (k + 1) (oneOn f a t) 0 (turned a t) false)
 stretch k f a t h l =
-    let s : stepOf (legEnd k f a t) (levelOf (turned a t)) ≡ goesOn (Bits (md (k + 1) (withBit f (turned a t)) 0 (turned a t) false)) =
+    let s : stepOf (legEnd k f a t) (levelOf (turned a t)) ≡ goesOn (Bits (md (k + 1) (oneOn f a t) 0 (turned a t) false)) =
     leg-edge k f a t h ∙ bit t in
     join (leg k f a t (allowed-open t h)) (one (levelOf (turned a t)) s)
   where
-    bit : (t : Stretch) → middleOf (afterLeg k f a t) (turned a t) ≡ goesOn (Bits (md (k + 1) (withBit f (turned a t)) 0 (turned a t) false))
-    bit (plain d) = next-bit (afterLeg k f a (plain d)) (not a) l
-    bit (crossed e d) = next-bit (afterLeg k f a (crossed e d)) a l
+    bit : (t : Stretch) → middleOf (afterLeg k f a t) (distanceOf t) (turned a t) ≡ goesOn (Bits (md (k + 1) (oneOn f a t) 0 (turned a t) false))
+    bit (plain d) = next-bit (afterLeg k f a (plain d)) d (not a) l
+    bit (crossed e d) = next-bit (afterLeg k f a (crossed e d)) d a l
 
 abbrev pub shiftedBy : Frame → Bool → List Stretch → Frame
 shiftedBy f a [] = f
-shiftedBy f a (t ∷ l) = shiftedBy (withBit f (turned a t)) (turned a t) l
+shiftedBy f a (t ∷ l) = shiftedBy (oneOn f a t) (turned a t) l
 
 pub stretches : (k : ℕ) (f : Frame) (a : Bool) (l : List Stretch) → AllAllowed l → k + length l ≤ 33
     → Quiet (mid k f 0 a false) (stretchesSamples a l) (mid (k + length l) (shiftedBy f a l) 0 (levelAfter a l) false)
 stretches k f a [] h g = let z : k + 0 ≡ k = omega arith in rw z (stay (mid k f 0 a false))
 stretches k f a (t ∷ l) h g =
     let z : k + suc (length l) ≡ k + 1 + length l = omega arith in
-    rw z (join (stretch k f a t (h .0) (omega arith)) (stretches (k + 1) (withBit f (turned a t)) (turned a t) l (h .1) (omega arith)))
+    rw z (join (stretch k f a t (h .0) (omega arith)) (stretches (k + 1) (oneOn f a t) (turned a t) l (h .1) (omega arith)))
 
 -- 32 bits pass none over the top
 pub word-after : (j : ℕ) (f : Frame) (a : Bool) (l : List Stretch) → f .word < 2 ^ j → j + length l ≤ 32 → shiftedBy f a l .word ≡ numberFrom (f .word) (edgeBits a l)
@@ -147,7 +154,7 @@ word-after j f a (t ∷ l) h g =
     let b = bit-small (turned a t) in
     let p : 2 ^ suc j ≡ 2 ^ j * 2 = pow-suc 2 j in
     let m : 2 ^ suc j ≤ 2 ^ 32 = pow-mono (let u : suc j ≤ 32 = omega arith in u) in
-    let q = withBit f (turned a t) in
+    let q = oneOn f a t in
     let e : q .word ≡ f .word * 2 + bitOf (turned a t) = mod-eq-of-lt (let v : f .word * 2 + bitOf (turned a t) < 2 ^ 32 = omega arith in v) in
     word-after (suc j) q (turned a t) l (omega arith) (omega arith) ∙ ap (λ (y : ℕ). numberFrom y (edgeBits (turned a t) l)) e
 

@@ -8,14 +8,17 @@ use Prim.Native.Nat.{ℕ, _+_, _-_, _≤_}
 use native.Mathlib.Omega.{arith}
 use lib.ListN.{length, length-append}
 use Rattle.word.specs.declared.Frame.{Frame}
+use Rattle.samples.specs.declared.Answer.{Answer}
 use Rattle.samples.specs.declared.Answer.the-variants as answer
-use Rattle.samples.specs.Answers.{frame, no-stop}
-use Rattle.samples.specs.Reading.{freshOf, begun, gives, middleOf, stepOf}
+use Rattle.samples.specs.Answers.{no-stop}
+use Rattle.samples.specs.Reading.{freshOf, gives, measured, middleOf, stepOf}
 use Rattle.samples.specs.Run.{answersOf, afterOf, none, Last}
-use Rattle.samples.specs.Edges.{levelOf, Stretch, plain, crossed, Allowed, AllAllowed, turned, levelAfter, legSamples, levelsOf, wordIn}
+use Rattle.samples.specs.Edges.{levelOf, Stretch, plain, crossed, Allowed, AllAllowed, turned, levelAfter, legSamples, levelsOf, distanceOf}
+use Rattle.samples.specs.Edges.{FrameOf}
 use Rattle.samples.proofs.Cases.{stop-rises, stop-falls}
 use Rattle.samples.proofs.Runs.{Quiet, ending, ending-after}
-use Rattle.samples.proofs.Stretches.{allowed-open, afterLeg, legEnd, leg-edge, soFar, word-after, quiet-leg, line-last}
+use Rattle.samples.proofs.Stretches.{allowed-open, afterLeg, legEnd, leg-edge, soFar, quiet-leg, line-last}
+use Rattle.samples.proofs.Straight.{frame-of, one-frame}
 
 -- 24 idle samples or more, a start bit, 32 stretches, and the one to the 34th middle edge
 module _ (n s : ℕ) (l : List Stretch) (t : Stretch) (gs : 8 ≤ s) (hs : s ≤ 14) (hl : AllAllowed l) (ht : Allowed t) (len : length l ≡ 32) where
@@ -41,29 +44,34 @@ module _ (n s : ℕ) (l : List Stretch) (t : Stretch) (gs : 8 ≤ s) (hs : s ≤
   quiet : Quiet freshOf before-last (legEnd (1 + length l) (soFar l) a t)
   quiet = quiet-leg n s l gs hs hl (omega arith) t (allowed-open t ht)
 
-  stop : (k : ℕ) (f : Frame) (t : Stretch) (b : Bool) → 33 ≤ k → middleOf (afterLeg k f a t) b ≡ gives (cond b no-stop (answer.Frame f))
-  stop k f (plain d) true h = stop-rises (afterLeg k f a (plain d)) true h refl
-  stop k f (plain d) false h = stop-falls (afterLeg k f a (plain d)) false h refl
-  stop k f (crossed e d) true h = stop-rises (afterLeg k f a (crossed e d)) true h refl
-  stop k f (crossed e d) false h = stop-falls (afterLeg k f a (crossed e d)) false h refl
+  stop : (k : ℕ) (f : Frame) (t : Stretch) (b : Bool) → 33 ≤ k → middleOf (afterLeg k f a t) (distanceOf t) b ≡ gives (cond b no-stop (answer.Frame (measured f (distanceOf t))))
+  stop k f (plain d) true h = stop-rises (afterLeg k f a (plain d)) d true h refl
+  stop k f (plain d) false h = stop-falls (afterLeg k f a (plain d)) d false h refl
+  stop k f (crossed e d) true h = stop-rises (afterLeg k f a (crossed e d)) d true h refl
+  stop k f (crossed e d) false h = stop-falls (afterLeg k f a (crossed e d)) d false h refl
 
-  last : stepOf (legEnd (1 + length l) (soFar l) a t) (levelOf (turned a t)) ≡ gives (cond (turned a t) no-stop (frame (wordIn l)))
-  last =
-      leg-edge (1 + length l) (soFar l) a t ht
-      ∙ stop (1 + length l) (soFar l) t (turned a t) (omega arith)
-      ∙ ap (λ (w : ℕ). gives (cond (turned a t) no-stop (frame w))) (word-after 0 begun false l (omega arith) (omega arith))
+  -- what is given there, where it falls
+  abbrev told : Answer
+  told = cond (turned a t) no-stop (answer.Frame (measured (soFar l) (distanceOf t)))
+
+  last : stepOf (legEnd (1 + length l) (soFar l) a t) (levelOf (turned a t)) ≡ gives told
+  last = leg-edge (1 + length l) (soFar l) a t ht ∙ stop (1 + length l) (soFar l) t (turned a t) (omega arith)
 
   -- the one answer comes at the last sample
-  judged : Last line (cond (turned a t) no-stop (frame (wordIn l)))
+  judged : Last line told
   judged =
-      ap (answersOf freshOf) split ∙ ending (levelOf (turned a t)) (cond (turned a t) no-stop (frame (wordIn l))) quiet last
-      ∙ ap (λ (k : ℕ). none k ++ (cond (turned a t) no-stop (frame (wordIn l)) ∷ [])) before-length
+      ap (answersOf freshOf) split ∙ ending (levelOf (turned a t)) told quiet last
+      ∙ ap (λ (k : ℕ). none k ++ (told ∷ [])) before-length
 
-  pub tolerant : turned (levelAfter false l) t ≡ false → Last line (frame (wordIn l))
-  tolerant falls = judged ∙ ap (λ (b : Bool). none (length line - 1) ++ (cond b no-stop (frame (wordIn l)) ∷ [])) falls
+  pub tolerant : (f : Frame) → FrameOf l t f → turned (levelAfter false l) t ≡ false → Last line (answer.Frame f)
+  tolerant f h falls =
+      judged
+      ∙ ap (λ (b : Bool). none (length line - 1) ++ (cond b no-stop (answer.Frame (measured (soFar l) (distanceOf t))) ∷ [])) falls
+      ∙ ap (λ (g : Frame). none (length line - 1) ++ (answer.Frame g ∷ [])) (one-frame l t (measured (soFar l) (distanceOf t)) f (frame-of l t ht len) h)
 
   pub rising : turned (levelAfter false l) t ≡ true → Last line no-stop
-  rising rises = judged ∙ ap (λ (b : Bool). none (length line - 1) ++ (cond b no-stop (frame (wordIn l)) ∷ [])) rises
+  rising rises =
+      judged ∙ ap (λ (b : Bool). none (length line - 1) ++ (cond b no-stop (answer.Frame (measured (soFar l) (distanceOf t))) ∷ [])) rises
 
   pub fresh-again : afterOf freshOf line ≡ freshOf
-  fresh-again = ap (afterOf freshOf) split ∙ ending-after (levelOf (turned a t)) (cond (turned a t) no-stop (frame (wordIn l))) quiet last
+  fresh-again = ap (afterOf freshOf) split ∙ ending-after (levelOf (turned a t)) told quiet last

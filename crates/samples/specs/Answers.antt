@@ -23,6 +23,6 @@ no-stop = Refused 3
 abbrev pub no-sample : Answer
 no-sample = Refused 4
 
--- a frame of this word
-abbrev pub frame : ℕ → Answer
-frame w = Frame (record { word = w })
+-- a frame of this word, with the smallest and the largest distance between neighbouring middle edges
+abbrev pub frame : ℕ → ℕ → ℕ → Answer
+frame w s g = Frame (record { word = w; shortest = s; longest = g })

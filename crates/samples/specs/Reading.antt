@@ -1,7 +1,7 @@
 -- Reading samples (01, 'Samples'), one at a time. A reader waits for idle, or is at a distance from the first edge, or is past a middle
 -- edge. The sentences of 01 stand above the definitions, in their order.
 -- Assumes nothing: these are definitions.
-use Prim.Native.Nat.{ℕ, _+_, _*_, _%_, _^_, min}
+use Prim.Native.Nat.{ℕ, _+_, _*_, _%_, _^_, min, max}
 use mathlib.Core.Bool.{Bool, true, false, cond, not, _&&_, Bool·beq}
 use lib.Dec.{leb, ltb, eqb}
 use Rattle.word.specs.declared.Frame.{Frame}
@@ -37,9 +37,13 @@ within from to d = leb from d && leb d to
 abbrev pub pastEdge : ℕ → Frame → Bool → Middle
 pastEdge edges frame active = record { edges = edges; frame = frame; distance = 0; active = active; other = false }
 
--- at the start bit's, which has no bit of the word
+-- at the start bit's, which has no bit of the word, and no distance from a middle edge before it: the first one will be below 255 and above 0
 abbrev pub begun : Frame
-begun = record { word = 0 }
+begun = record { word = 0; shortest = 255; longest = 0 }
+
+-- "the smallest and largest distance between neighbouring middle edges" (02, Ask 3): the next one is at distance d from the one before
+abbrev pub measured : Frame → ℕ → Frame
+measured f d = record { word = f .word; shortest = min (f .shortest) d; longest = max (f .longest) d }
 
 -- "the start bit's middle edge follows at distance 8 to 14. An earlier edge is refusal 1; no edge up to 14 is refusal 2, given at
 -- distance 15 for either level there": a sample at distance d from the first edge. The line was active since, so an idle one is an edge
@@ -57,14 +61,16 @@ bitOf true = 0
 bitOf false = 1
 
 abbrev pub withBit : Frame → Bool → Frame
-withBit f active = record { word = (f .word * 2 + bitOf active) % 2 ^ 32 }
+withBit f active = record { word = (f .word * 2 + bitOf active) % 2 ^ 32; shortest = f .shortest; longest = f .longest }
 
--- "The 34th must fall, else refusal 3. The frame is given at that sample, of either parity.": the next middle edge, to this level
-unfoldable pub middleOf : Middle → Bool → Step
-middleOf m active =
+-- "The 34th must fall, else refusal 3. The frame is given at that sample, of either parity.": the next middle edge, at distance d and
+-- to this level
+unfoldable pub middleOf : Middle → ℕ → Bool → Step
+middleOf m d active =
+    let f = measured (m .frame) d in
     cond (ltb (m .edges + 1) 34)
-    (goesOn (Bits (pastEdge (m .edges + 1) (withBit (m .frame) active) active)))
-    (cond active (gives no-stop) (gives (answer.Frame (m .frame))))
+    (goesOn (Bits (pastEdge (m .edges + 1) (withBit f active) active)))
+    (cond active (gives no-stop) (gives (answer.Frame f)))
 
 -- the sample at distance d from the same middle edge; `other`: whether the other edge was there
 abbrev pub fartherOf : Middle → ℕ → Bool → Bool → Middle
@@ -76,7 +82,7 @@ fartherOf m d active other = record { edges = m .edges; frame = m .frame; distan
 unfoldable pub nextOf : Middle → ℕ → Bool → Step
 nextOf m d active =
     let edge = not (Bool·beq active (m .active)) in
-    cond (edge && within 18 23 d) (middleOf m active)
+    cond (edge && within 18 23 d) (middleOf m d active)
     (cond (edge && (not (m .other) && within 8 14 d)) (goesOn (Bits (fartherOf m d active true)))
     (cond (edge && leb d 17) (gives early)
     (cond (ltb 23 d) (gives late)

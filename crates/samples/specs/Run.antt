@@ -3,7 +3,7 @@
 use mathlib.Core.Path.{_≡_}
 use mathlib.Core.List.{List, [], _∷_, _++_}
 use Prim.Native.Nat.{ℕ, _-_}
-use lib.ListN.{length, replicate}
+use lib.ListN.{length, getD, replicate}
 use Rattle.samples.specs.declared.Answer.{Answer}
 use Rattle.samples.specs.declared.Answer.the-variants.{Nothing}
 use Rattle.samples.specs.Reader.{Reader}
@@ -24,6 +24,10 @@ none n = replicate n Nothing
 -- the reader gives an answer to this sample
 abbrev pub Answered : Reader → ℕ → Type 0
 Answered r s = stepOf r s .answer ≡ Nothing → ⊥
+
+-- the answer of a fresh reader to sample number n of these, the first of which is number 0
+abbrev pub answerAt : List ℕ → ℕ → Answer
+answerAt l n = getD (answersOf freshOf l) n Nothing
 
 -- a fresh reader gives one answer to these samples, this one, at their last
 abbrev pub Last : List ℕ → Answer → Type 0

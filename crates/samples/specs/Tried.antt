@@ -24,12 +24,12 @@ fives s d = levelsOf 0 s (plain d ∷ replicate 31 (plain 20) ++ (crossed 10 20 
 
 -- "P11 a middle edge at 17 is refusal 1, at 18 and 23 good."
 abbrev pub p11-cases : List Try
-p11-cases = try (levelsOf 0 10 (plain 17 ∷ [])) (Refused 1) ∷ try (fives 10 18) (frame 0x5555_5555) ∷ try (fives 10 23) (frame 0x5555_5555) ∷ []
+p11-cases = try (levelsOf 0 10 (plain 17 ∷ [])) (Refused 1) ∷ try (fives 10 18) (frame 0x5555_5555 18 20) ∷ try (fives 10 23) (frame 0x5555_5555 20 23) ∷ []
 
 -- "start edge at 14 good, at 15 refusal 2; a middle edge at 24 refusal 2", at 15 and 24 for either level
 abbrev pub run-cases : List Try
 run-cases =
-    try (fives 14 20) (frame 0x5555_5555)
+    try (fives 14 20) (frame 0x5555_5555 20 20)
     ∷ try (replicate 24 0 ++ (replicate 15 1 ++ (0 ∷ []))) (Refused 2)
     ∷ try (replicate 24 0 ++ (replicate 15 1 ++ (1 ∷ []))) (Refused 2)
     ∷ try (levelsOf 0 10 [] ++ (replicate 23 0 ++ (1 ∷ []))) (Refused 2)

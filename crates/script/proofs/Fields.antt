@@ -10,7 +10,8 @@ use borrow.Author.Tests.{eq-eqb, ne-eqb}
 use lib.Dec.{eqb}
 use lib.ListN.{length, getD, take, drop, length-drop, drop-of-length-le}
 use lib.Seq.{drop-cons, take-all}
-use Rattle.script.specs.Lines.{begins, endOf}
+use Rattle.script.specs.Frames.{endOf}
+use Rattle.script.specs.Lines.{begins}
 use Rattle.script.proofs.Both.{right}
 
 -- a part up to the end of all, as it is lent

@@ -8,6 +8,8 @@ use lib.ListN.{length}
 use Rattle.places.specs.Bytes.{wordAt}
 use Rattle.script.specs.declared.Hex.{Hex}
 use Rattle.script.specs.declared.Hex.the-variants as hex
+use Rattle.script.specs.declared.decimal.Byte.{Byte}
+use Rattle.script.specs.declared.decimal.Byte.the-variants as byte
 use Rattle.script.specs.declared.decimal.Number.{Number}
 use Rattle.script.specs.declared.decimal.Number.the-variants as number
 
@@ -31,6 +33,14 @@ boundedFrom most v s = cond (allDecimal s && leb (decimalFrom v s) most) (number
 -- a decimal number: one digit or more, no sign, at most so much
 unfoldable pub boundedOf : ℕ → List ℕ → Number
 boundedOf most s = cond (eqb (length s) 0) number.Nothing (boundedFrom most 0 s)
+
+abbrev pub byteBy : Number → Byte
+byteBy number.Nothing = byte.Nothing
+byteBy (number.Value n) = byte.Of n
+
+-- 0 to 255
+unfoldable pub byteOf : List ℕ → Byte
+byteOf s = byteBy (boundedOf 255 s)
 
 -- the value of a hexadecimal digit, 0 to 9, A to F or a to f; 16 for any other byte
 unfoldable pub digitOf : ℕ → ℕ

@@ -1,23 +1,27 @@
 -- The lines of a script. A line is a word and its fields, separated by one space each:
 --     tick N              N ticks, 1 to 4,294,967,295
---     thermostat L W      the frame W, eight hexadecimal digits, from the thermostat of line L
---     boiler L W          the same from the boiler; L is 0 to 255, so that lines that aren't there can be tried
+--     thermostat L F      the frame F (Frames) from the thermostat of line L
+--     boiler L F          the same from the boiler; L is 0 to 255, so that lines that aren't there can be tried
 --     modbus BYTES        a message, a pair of hexadecimal digits for each byte; `modbus` alone is a message of none
 --     room N              from now on a room of N bytes is lent for replies, 0 to 300
 -- An empty line and one that begins with `#` are skipped. Any other line is wrong.
 -- Assumes nothing: these are definitions.
-use Prim.Native.Nat.{ℕ, suc, _+_, _/_}
+use Prim.Native.Nat.{ℕ, _+_, _/_}
 use mathlib.Core.Bool.{Bool, true, false, cond, _&&_}
 use mathlib.Core.List.{List, [], _∷_, _++_}
 use lib.Dec.{ltb, eqb}
 use lib.ListN.{length, take, drop}
+use Rattle.word.specs.declared.Frame.{Frame}
 use Rattle.script.specs.declared.Event.{Event}
 use Rattle.script.specs.declared.Event.the-variants.{Skip, Wrong, Ticks, Thermostat, Boiler, Message, Room}
-use Rattle.script.specs.declared.Hex.{Hex}
-use Rattle.script.specs.declared.Hex.the-variants as hex
+use Rattle.script.specs.declared.decimal.Byte.{Byte}
+use Rattle.script.specs.declared.decimal.Byte.the-variants as byte
 use Rattle.script.specs.declared.decimal.Number.{Number}
 use Rattle.script.specs.declared.decimal.Number.the-variants as number
-use Rattle.script.specs.Digits.{boundedOf, hexWordOf, fits, pairsOf}
+use Rattle.script.specs.declared.frames.Framing.{Framing}
+use Rattle.script.specs.declared.frames.Framing.the-variants as framing
+use Rattle.script.specs.Digits.{boundedOf, byteOf, fits, pairsOf}
+use Rattle.script.specs.Frames.{endOf, framingOf}
 
 -- what a line says, and the bytes of its message
 pub record Read : Type 0 where
@@ -37,11 +41,6 @@ begins [] s = true
 begins (b ∷ w) [] = false
 begins (b ∷ w) (c ∷ s) = eqb c b && begins w s
 
--- where the first field ends: before a space, or at the end
-unfoldable pub endOf : List ℕ → ℕ
-endOf [] = 0
-endOf (b ∷ s) = cond (eqb b 32) 0 (suc (endOf s))
-
 abbrev pub tickedBy : Number → Event
 tickedBy (number.Value n) = cond (eqb n 0) Wrong (Ticks n)
 tickedBy number.Nothing = Wrong
@@ -57,18 +56,18 @@ unfoldable pub roomLine : List ℕ → Event
 roomLine s = lent (boundedOf 300 s)
 
 -- of the boiler, or of the thermostat
-abbrev pub from : Bool → ℕ → ℕ → Event
-from true n w = Boiler n w
-from false n w = Thermostat n w
+abbrev pub from : Bool → ℕ → Frame → Event
+from true n f = Boiler n f
+from false n f = Thermostat n f
 
-abbrev pub framedBy : Number → Hex → Bool → Event
-framedBy number.Nothing w boiler = Wrong
-framedBy (number.Value n) hex.Nothing boiler = Wrong
-framedBy (number.Value n) (hex.Word w) boiler = from boiler n w
+abbrev pub framedBy : Byte → Framing → Bool → Event
+framedBy byte.Nothing f boiler = Wrong
+framedBy (byte.Of n) framing.Nothing boiler = Wrong
+framedBy (byte.Of n) (framing.Of f) boiler = from boiler n f
 
--- a number up to the first space, and a word behind it
+-- a number up to the first space, and a frame behind it
 unfoldable pub frameLine : Bool → List ℕ → Event
-frameLine boiler s = framedBy (boundedOf 255 (take (endOf s) s)) (hexWordOf (drop (endOf s + 1) s)) boiler
+frameLine boiler s = framedBy (byteOf (take (endOf s) s)) (framingOf (drop (endOf s + 1) s)) boiler
 
 -- one byte or more, as many as a room of n bytes holds
 unfoldable pub messageLine : ℕ → List ℕ → Read

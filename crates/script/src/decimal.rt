@@ -1,9 +1,14 @@
 // A field of decimal digits, read into a number.
 ghost use mathlib.Core.Path.{_≡_};
-ghost use Rattle.script.specs.Digits.{boundedOf};
+ghost use Rattle.script.specs.Digits.{boundedOf, byteOf};
 
 pub(crate) enum Number {
     Value(u32),
+    Nothing,
+}
+
+pub(crate) enum Byte {
+    Of(u8),
     Nothing,
 }
 
@@ -32,4 +37,14 @@ pub(crate) fn number_of(s: &[u8], most: u32) -> Number
         i += 1;
     }
     Number::Value(value as u32)
+}
+
+// A number of one byte, 0 to 255.
+pub(crate) fn byte_of(s: &[u8]) -> Byte
+    ensures { λ r. ⌜ r ≡ byteOf (now (s .entry)) ⌝ }
+{
+    let Number::Value(n) = number_of(s, 255) else {
+        return Byte::Nothing;
+    };
+    Byte::Of(n as u8)
 }

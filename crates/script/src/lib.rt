@@ -1,18 +1,24 @@
 // A line of a script, read into an event. The bytes of a message go into a room that the caller lends.
 mod decimal;
+mod frames;
 mod pairs;
 
+use decimal::Byte;
 use decimal::Number;
+use decimal::byte_of;
 use decimal::number_of;
+use frames::Framing;
+use frames::frame_of;
 use pairs::pairs;
 use places::word_at;
+use word::Frame;
 ghost use mathlib.Core.Path.{_≡_};
 ghost use Prim.Native.Nat.{_≤_};
 ghost use lib.ListN.{length};
 ghost use Rattle.script.specs.Digits.{hexWordOf};
+ghost use Rattle.script.specs.Frames.{endOf};
 ghost use Rattle.script.specs.Lines.{
   begins as beginsOf,
-  endOf,
   tickLine,
   roomLine,
   from as fromOf,
@@ -29,8 +35,8 @@ pub enum Event {
     Skip,
     Wrong,
     Ticks(u32),
-    Thermostat(u8, u32),
-    Boiler(u8, u32),
+    Thermostat(u8, Frame),
+    Boiler(u8, Frame),
     Message(usize),
     Room(usize),
 }
@@ -107,31 +113,31 @@ fn room(s: &[u8]) -> Event
 }
 
 // Of the boiler, or of the thermostat.
-fn from(boiler: bool, n: u8, w: u32) -> Event
-    ensures { λ r. ⌜ r ≡ fromOf boiler n w ⌝ }
+fn from(boiler: bool, n: u8, f: Frame) -> Event
+    ensures { λ r. ⌜ r ≡ fromOf boiler n f ⌝ }
 {
     if boiler {
-        Event::Boiler(n, w)
+        Event::Boiler(n, f)
     } else {
-        Event::Thermostat(n, w)
+        Event::Thermostat(n, f)
     }
 }
 
-// A line's number and a word.
+// A line's number and a frame.
 fn frame(s: &[u8], boiler: bool) -> Event
     ensures { λ r. ⌜ r ≡ frameLine boiler (now (s .entry)) ⌝ }
 {
     let end = field_end(s);
-    let Number::Value(n) = number_of(&s[..end], 255) else {
+    let Byte::Of(n) = byte_of(&s[..end]) else {
         return Event::Wrong;
     };
     if s.len() <= end {
         return Event::Wrong;
     }
-    let Hex::Word(w) = word(&s[end + 1..]) else {
+    let Framing::Of(f) = frame_of(&s[end + 1..]) else {
         return Event::Wrong;
     };
-    from(boiler, n as u8, w)
+    from(boiler, n, f)
 }
 
 // The bytes of a message: a pair of digits or more.

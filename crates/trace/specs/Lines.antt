@@ -1,14 +1,16 @@
 -- The lines of a trace, in ASCII: the time in ticks, and what was sent or told.
---     T sent L WWWWWWWW       the frame's word goes out on line L
+--     T sent L F              a frame goes out on line L: its word, and how straight its edges were, unless both numbers are 0
 --     T held L                a thermostat's frame is held; T dropped L: a boiler's is dropped
---     T passed L WWWWWWWW     a boiler's frame is passed on to the thermostat of line L
+--     T passed L F            a boiler's frame is passed on to the thermostat of line L
 --     T accepted L            a message is an order on line L now
 --     T reply BYTES           a reply at once
 --     T reply BYTES wait N    the reply to the order under way, and its wait in ticks
 --     T refused N             a refusal with its number
 -- Assumes nothing: these are definitions.
 use Prim.Native.Nat.{ℕ}
+use mathlib.Core.Bool.{Bool, cond, _&&_}
 use mathlib.Core.List.{List, [], _∷_, _++_}
+use lib.Dec.{eqb}
 use lib.ListN.{take}
 use Rattle.word.specs.declared.Frame.{Frame}
 use Rattle.text.specs.Text.{decimalOf, hexOf}
@@ -50,9 +52,16 @@ onLine time word line = decimalOf time ++ (word ++ decimalOf line)
 unfoldable pub alone : ℕ → List ℕ → ℕ → List ℕ
 alone time word line = onLine time word line ++ (newline ∷ [])
 
--- and a frame's word, in eight digits
-unfoldable pub framed : ℕ → List ℕ → ℕ → ℕ → List ℕ
-framed time word line frame = onLine time word line ++ (32 ∷ (hexOf 8 frame ++ (newline ∷ [])))
+-- how straight a frame's edges were (02, Ask 3), in decimal; nothing where both numbers are 0
+unfoldable pub unmeasuredOf : Frame → Bool
+unmeasuredOf f = eqb (f .shortest) 0 && eqb (f .longest) 0
+
+unfoldable pub straightOf : Frame → List ℕ
+straightOf f = cond (unmeasuredOf f) [] (32 ∷ (decimalOf (f .shortest) ++ (32 ∷ decimalOf (f .longest))))
+
+-- and a frame: its word in eight digits, and that
+unfoldable pub framed : ℕ → List ℕ → ℕ → Frame → List ℕ
+framed time word line frame = onLine time word line ++ (32 ∷ (hexOf 8 (frame .word) ++ (straightOf frame ++ (newline ∷ []))))
 
 -- bytes as pairs of digits
 unfoldable pub inHex : List ℕ → List ℕ
@@ -70,13 +79,13 @@ unfoldable pub refusedOf : ℕ → ℕ → List ℕ
 refusedOf time number = decimalOf time ++ (refused ++ (decimalOf number ++ (newline ∷ [])))
 
 unfoldable pub sentOf : ℕ → ℕ → Frame → List ℕ
-sentOf time line frame = framed time sent line (frame .word)
+sentOf time line frame = framed time sent line frame
 
 -- what is told, of this line where it is one's; a quiet tick has no line
 unfoldable pub toldOf : ℕ → ℕ → Told → List ℕ → List ℕ
 toldOf time line Quiet room = []
 toldOf time line Held room = alone time held line
-toldOf time line (Passed frame) room = framed time passed line (frame .word)
+toldOf time line (Passed frame) room = framed time passed line frame
 toldOf time line Dropped room = alone time dropped line
 toldOf time line Accepted room = alone time accepted line
 toldOf time line (Reply count) room = replied time count room ++ (newline ∷ [])

@@ -4,7 +4,7 @@ use text::Text;
 use word::Frame;
 ghost use mathlib.Core.Path.{_≡_};
 ghost use Rattle.text.specs.Text.{emptyText, puts};
-ghost use Rattle.trace.specs.Lines.{onLine, alone as aloneOf, framed as framedOf, inHex, replied, outcomeOf, refusedOf, sentOf, toldOf};
+ghost use Rattle.trace.specs.Lines.{unmeasuredOf, onLine, alone as aloneOf, straightOf, framed as framedOf, inHex, replied, outcomeOf, refusedOf, sentOf, toldOf};
 
 // A line's beginning: the time, a word, and the number of a line of the box.
 fn on_line(time: u64, word: &[u8], line: u8) -> Text
@@ -13,13 +13,35 @@ fn on_line(time: u64, word: &[u8], line: u8) -> Text
     Text::empty().decimal(time).put(word).decimal(line as u64)
 }
 
-fn framed(time: u64, word: &[u8], line: u8, frame: u32) -> Text
+// Both numbers are 0, as those of an order's own frame are.
+fn unmeasured(frame: Frame) -> bool
+    ensures { λ r. ⌜ r ≡ unmeasuredOf frame ⌝ }
+{
+    if frame.shortest == 0 {
+        frame.longest == 0
+    } else {
+        false
+    }
+}
+
+// How straight a frame's edges were, behind its word.
+fn straight(t: Text, frame: Frame) -> Text
+    ensures { λ r. ⌜ r ≡ puts t (straightOf frame) ⌝ }
+{
+    if unmeasured(frame) {
+        return t;
+    }
+    t.push(b' ')
+        .decimal(frame.shortest as u64)
+        .push(b' ')
+        .decimal(frame.longest as u64)
+}
+
+fn framed(time: u64, word: &[u8], line: u8, frame: Frame) -> Text
     ensures { λ r. ⌜ r ≡ puts emptyText (framedOf time (now (word .entry)) line frame) ⌝ }
 {
-    on_line(time, word, line)
-        .push(b' ')
-        .hex(frame, 8)
-        .push(b'\n')
+    let t = on_line(time, word, line).push(b' ').hex(frame.word, 8);
+    straight(t, frame).push(b'\n')
 }
 
 fn alone(time: u64, word: &[u8], line: u8) -> Text
@@ -75,7 +97,7 @@ fn refused(time: u64, number: u8) -> Text
 pub fn sent(time: u64, line: u8, frame: Frame) -> Text
     ensures { λ r. ⌜ r ≡ puts emptyText (sentOf time line frame) ⌝ }
 {
-    framed(time, b" sent ", line, frame.word)
+    framed(time, b" sent ", line, frame)
 }
 
 // What the box tells, of this line where it is one's; a reply stands in the room. A quiet tick has no line.
@@ -85,7 +107,7 @@ pub fn told(time: u64, line: u8, t: Told, room: &[u8]) -> Text
     match t {
         Told::Quiet => Text::empty(),
         Told::Held => alone(time, b" held ", line),
-        Told::Passed(frame) => framed(time, b" passed ", line, frame.word),
+        Told::Passed(frame) => framed(time, b" passed ", line, frame),
         Told::Dropped => alone(time, b" dropped ", line),
         Told::Accepted => alone(time, b" accepted ", line),
         Told::Reply(count) => reply(time, room, count).push(b'\n'),

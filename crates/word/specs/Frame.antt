@@ -7,11 +7,16 @@ use mathlib.Core.List.{List, [], _∷_}
 use lib.Bits.{bitXor}
 use lib.Dec.{eqb, ltb}
 use lib.Count.{ones}
+use Rattle.word.specs.declared.Frame.{Frame}
 use Rattle.word.specs.declared.Built.{Built}
 use Rattle.word.specs.declared.Built.the-variants.{Word, Refused}
 use Rattle.word.specs.declared.Checked.{Checked}
 use Rattle.word.specs.declared.Checked.the-variants as checked
 use Rattle.word.specs.Checks.{Check, must, judged}
+
+-- a frame of this word that wasn't read from samples: it has no distances (02, Ask 3)
+abbrev pub unmeasured : ℕ → Frame
+unmeasured w = record { word = w; shortest = 0; longest = 0 }
 
 -- n bits of a word, from bit k on
 abbrev pub field : ℕ → ℕ → ℕ → ℕ

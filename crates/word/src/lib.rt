@@ -2,9 +2,12 @@
 ghost use mathlib.Core.Path.{_≡_};
 ghost use Rattle.word.specs.Frame.{evenOf, typeOf, spareOf, idOf, valueOf, checkedOf, builtOf, suitsOf, matchesOf};
 
-// A frame on its way through the box. It holds the word alone; what else a frame carries will stand here.
+// A frame on its way through the box: its word, and how straight its edges were (02, Ask 3), that is the smallest and the largest distance
+// between neighbouring middle edges, in samples. Both are 0 where no samples were read.
 pub struct Frame {
     pub word: u32,
+    pub shortest: u8,
+    pub longest: u8,
 }
 
 // A word made from its fields, or the number of the refusal.

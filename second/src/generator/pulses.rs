@@ -1,8 +1,11 @@
 //! Samples for the reader: written frames, frames with moved, extra and missing edges, samples
 //! that are no level, noise.
 
+mod distances;
+
 use crate::random::Random;
 use crate::samples;
+use distances::Distances;
 
 /// What is wrong with a frame, if anything.
 #[derive(Clone, Copy, PartialEq, Eq)]
@@ -30,15 +33,15 @@ const FAULTS: [Fault; 8] = [
 ];
 
 pub fn samples(random: &mut Random, count: usize) -> Vec<u8> {
-    let mut all = Vec::new();
+    let (mut all, mut distances) = (Vec::new(), Distances::default());
     while all.len() < count {
         gap(random, &mut all);
         match random.below(20) {
-            0..=3 => all.extend(samples::write(random.word())),
-            4..=9 => moved_frame(random, Fault::None, &mut all),
+            0 | 1 => all.extend(samples::write(random.word())),
+            2..=9 => moved_frame(random, Fault::None, &mut distances, &mut all),
             10..=18 => {
                 let fault = random.pick(&FAULTS);
-                moved_frame(random, fault, &mut all);
+                moved_frame(random, fault, &mut distances, &mut all);
             }
             _ => noise(random, &mut all),
         }
@@ -65,7 +68,7 @@ fn gap(random: &mut Random, all: &mut Vec<u8>) {
 }
 
 /// The frame as a list of lengths, level after level from active on, put out as samples.
-fn moved_frame(random: &mut Random, fault: Fault, all: &mut Vec<u8>) {
+fn moved_frame(random: &mut Random, fault: Fault, dealt: &mut Distances, all: &mut Vec<u8>) {
     let mut bits: Vec<u8> = (0..32).map(|_| random.pick(&[0, 1])).collect();
     bits.insert(0, 1);
     bits.push(u8::from(fault != Fault::StopRises));
@@ -73,8 +76,13 @@ fn moved_frame(random: &mut Random, fault: Fault, all: &mut Vec<u8>) {
         Fault::StopRises => 33,
         _ => random.pick(&[1, 2, 3, 17, 32, 33, 33]),
     };
-    // Loose frames move each edge anywhere within its bounds, tight ones keep to the ends.
+    // Loose frames move each edge anywhere within its bounds, tight ones keep to the ends; but good
+    // ones have middle edges that tell where the smallest and the largest distance stand.
     let tight = random.percent(50);
+    let distances = match fault {
+        Fault::None => dealt.draw(random),
+        _ => distances::wide(random, tight),
+    };
     let from = all.len();
     start_bit(random, tight, fault, at, all);
     // Behind a fault most of the frame is left out, so that more faults fit into a run.
@@ -82,7 +90,9 @@ fn moved_frame(random: &mut Random, fault: Fault, all: &mut Vec<u8>) {
     let end = if cut_short { at + 1 } else { bits.len() };
     for place in 1..end {
         let fault_here = if place == at { fault } else { Fault::None };
-        bit(random, bits[place - 1], bits[place], tight, fault_here, all);
+        let neighbours = [bits[place - 1], bits[place]];
+        let distance = distances[place - 1];
+        bit(random, neighbours, distance, tight, fault_here, all);
     }
     // Behind the last middle edge the level stays for half a bit and then rests.
     let level = 1 - bits[end - 1];
@@ -108,9 +118,15 @@ fn start_bit(random: &mut Random, tight: bool, fault: Fault, at: usize, all: &mu
 
 /// The samples from one middle edge up to the next: one level, or two with an edge between where
 /// the bits are equal.
-fn bit(random: &mut Random, before: u8, now: u8, tight: bool, fault: Fault, all: &mut Vec<u8>) {
+fn bit(
+    random: &mut Random,
+    [before, now]: [u8; 2],
+    mut distance: usize,
+    tight: bool,
+    fault: Fault,
+    all: &mut Vec<u8>,
+) {
     let level = 1 - before;
-    let mut distance = inside(random, tight, 18, 23);
     let mut other = inside(random, tight, 8, 14);
     match fault {
         Fault::MiddleEdge => distance = random.pick(&[15, 16, 17, 24, 25, 30]),

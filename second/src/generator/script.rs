@@ -8,7 +8,7 @@ mod time;
 
 use std::io;
 
-use super::{messages, strange_lines};
+use super::{messages, numbers, strange_lines};
 use crate::digits::pairs;
 use crate::programs::replay::Replay;
 use crate::random::Random;
@@ -44,6 +44,8 @@ struct Script {
     size: usize,
     /// Plans still to come, dealt like cards so that each row meets each end.
     deck: Vec<Plan>,
+    /// Lines with wrong numbers still to come, dealt so that each form is tried.
+    wrong_lines: Vec<Vec<u8>>,
     plan: Option<Plan>,
     longest_waits: u32,
     /// How often each line's thermostat speaks, drawn anew from time to time.
@@ -63,6 +65,7 @@ pub fn script(mut random: Random, size: usize) -> Vec<u8> {
         lines: 0,
         size,
         deck: Vec::new(),
+        wrong_lines: Vec::new(),
         plan: None,
         longest_waits: 0,
         chatty: [1; 4],
@@ -98,10 +101,7 @@ impl Script {
                 let message = messages::own_request(&mut self.random);
                 self.modbus(&message);
             }
-            48..=50 => {
-                let line = strange_lines::no_line(&mut self.random);
-                self.say(&line);
-            }
+            48..=50 => self.no_line(),
             51..=52 => {
                 let line = strange_lines::comment(&mut self.random);
                 self.say(&line);
@@ -136,11 +136,24 @@ impl Script {
     }
 
     fn frame(&mut self, source: &str, line: u64, frame: u32) {
+        let numbers = numbers::good(&mut self.random);
         if self.random.percent(20) {
-            self.say(format!("{source} {line} {frame:08x}").as_bytes());
+            self.say(format!("{source} {line} {frame:08x}{numbers}").as_bytes());
         } else {
-            self.say(format!("{source} {line} {frame:08X}").as_bytes());
+            self.say(format!("{source} {line} {frame:08X}{numbers}").as_bytes());
         }
+    }
+
+    /// A line that is none, often for its numbers alone.
+    fn no_line(&mut self) {
+        if self.wrong_lines.is_empty() {
+            self.wrong_lines = numbers::wrong_lines(&mut self.random);
+        }
+        let line = match self.random.percent(30) {
+            true => self.wrong_lines.pop().expect("just filled"),
+            false => strange_lines::no_line(&mut self.random),
+        };
+        self.say(&line);
     }
 
     fn modbus(&mut self, message: &[u8]) {

@@ -20,6 +20,7 @@ const NO_LINES: &[&[u8]] = &[
     b"tick 1\r",
     b"tick\t1",
     b"tick 1 1",
+    b"tick 1 18 23",
     b"tick 1x",
     b"tick 0x1",
     b"tick 1.0",
@@ -42,12 +43,19 @@ const NO_LINES: &[&[u8]] = &[
     b"thermostat 1 8019 0000",
     b"thermostat 80190000",
     b"thermostat  80190000",
+    b"thermostat 80190000 18 23",
+    b"thermostat 1 18 23",
+    b"thermostat 1 18 23 80190000",
+    b"thermostat 1 8019000 18 23",
+    b"thermostat 256 80190000 18 23",
     b"thermostat one 80190000",
     b"boiler",
     b"boiler 1",
     b"boiler 1 4019328",
     b"boiler 1 +0193280",
     b"boiler 65537 40193280",
+    b"boiler 1 401932800 18 23",
+    b"boiler 18 23 1 40193280",
     b"boiler 1 40193280\r",
     b"boiler 1\x0040193280",
     b"modbus ",
@@ -56,6 +64,7 @@ const NO_LINES: &[&[u8]] = &[
     b"modbus 0g",
     b"modbus 01 03",
     b"modbus 01 ",
+    b"modbus 0503007600016454 18 23",
     b"modbus  01",
     b"modbus\r",
     b"MODBUS",
@@ -68,6 +77,7 @@ const NO_LINES: &[&[u8]] = &[
     b"room 18446744073709551632",
     b"room -1",
     b"room 16 16",
+    b"room 16 18 23",
     b"room 16\r",
     b"sent 1 80190000",
     b" ",
@@ -83,7 +93,8 @@ pub fn no_line(random: &mut Random) -> Vec<u8> {
     match random.below(10) {
         // One byte changed or added in a good line may leave it good, which is fine too.
         0 => {
-            let mut line = b"thermostat 1 80190000".to_vec();
+            let good: [&[u8]; 2] = [b"thermostat 1 80190000", b"boiler 1 40193280 18 23"];
+            let mut line = random.pick(&good).to_vec();
             let place = random.below(line.len() as u64) as usize;
             line[place] = random.between(11, 255) as u8;
             line
@@ -121,13 +132,14 @@ pub fn comment(random: &mut Random) -> Vec<u8> {
 /// Comments and numbers with leading zeros, of 1,024 bytes, one more, and many more.
 fn long_line(random: &mut Random) -> Vec<u8> {
     let length = random.pick(&[1023, 1024, 1024, 1025, 1025, 1026, 2048, 5000]);
-    match random.below(4) {
+    match random.below(5) {
         0 | 1 => {
             let mut line = vec![b'#'];
             line.resize(length, b'x');
             line
         }
         2 => padded(b"tick ", b"1", length),
+        3 => padded(b"thermostat 9 80190000 18 ", b"23", length),
         _ => padded(b"room ", b"256", length),
     }
 }

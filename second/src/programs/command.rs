@@ -1,6 +1,7 @@
 //! A line of a script that says something, read.
 
 use crate::digits;
+use crate::frame::{Edges, Frame, NO_EDGES};
 use crate::gateway::Side;
 
 const LONGEST_MESSAGE: usize = 300;
@@ -8,9 +9,26 @@ const LARGEST_ROOM: u64 = 300;
 
 pub enum Command {
     Tick(u64),
-    Frame(Side, u8, u32),
+    Frame(Side, u8, Came),
     Modbus(Vec<u8>),
     Room(usize),
+}
+
+/// A frame as its line gives it: the word, and the two numbers behind it where they stand.
+#[derive(Clone, Copy, PartialEq, Eq, Debug)]
+pub struct Came {
+    pub word: u32,
+    pub edges: Option<Edges>,
+}
+
+impl Came {
+    /// "Without them both are 0."
+    pub fn frame(self) -> Frame {
+        Frame {
+            word: self.word,
+            edges: self.edges.unwrap_or(NO_EDGES),
+        }
+    }
 }
 
 impl Command {
@@ -19,8 +37,8 @@ impl Command {
         let fields: Vec<&[u8]> = line.split(|byte| *byte == b' ').collect();
         match fields[..] {
             [b"tick", count] => Some(Command::Tick(number(count, 1, 4_294_967_295)?)),
-            [b"thermostat", line, word] => frame(Side::Thermostat, line, word),
-            [b"boiler", line, word] => frame(Side::Boiler, line, word),
+            [b"thermostat", ref fields @ ..] => frame(Side::Thermostat, fields),
+            [b"boiler", ref fields @ ..] => frame(Side::Boiler, fields),
             [b"modbus"] => Some(Command::Modbus(Vec::new())),
             [b"modbus", bytes] => Some(Command::Modbus(message(bytes)?)),
             [b"room", size] => Some(Command::Room(number(size, 0, LARGEST_ROOM)? as usize)),
@@ -46,9 +64,22 @@ fn number(digits: &[u8], least: u64, most: u64) -> Option<u64> {
     (least..=most).contains(&number).then_some(number)
 }
 
-fn frame(side: Side, line: &[u8], word: &[u8]) -> Option<Command> {
-    let line = number(line, 0, 255)? as u8;
-    Some(Command::Frame(side, line, hex_word(word)?))
+/// A line, a frame's smallest or its largest distance: each 0 to 255.
+fn byte(digits: &[u8]) -> Option<u8> {
+    Some(number(digits, 0, 255)? as u8)
+}
+
+fn frame(side: Side, fields: &[&[u8]]) -> Option<Command> {
+    let (line, word, edges) = match *fields {
+        [line, word] => (line, word, None),
+        [line, word, smallest, largest] => {
+            let (smallest, largest) = (byte(smallest)?, byte(largest)?);
+            (line, word, Some(Edges { smallest, largest }))
+        }
+        _ => return None,
+    };
+    let (line, word) = (byte(line)?, hex_word(word)?);
+    Some(Command::Frame(side, line, Came { word, edges }))
 }
 
 fn hex_word(digits: &[u8]) -> Option<u32> {

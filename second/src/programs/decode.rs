@@ -5,8 +5,9 @@ use std::io::{self, Write};
 use super::stream::Program;
 use crate::samples::{Heard, Reader};
 
-/// "For each answer of the reader a line `INDEX frame XXXXXXXX` or `INDEX refused N` (INDEX: the
-/// sample's place from 0, decimal; the word in eight capital hex digits)."
+/// "For each answer of the reader a line `INDEX frame XXXXXXXX S G` or `INDEX refused N` (INDEX: the
+/// sample's place from 0, decimal; the word in eight capital hex digits; the smallest and the
+/// largest distance, decimal)."
 pub struct Decode {
     reader: Reader,
     index: u64,
@@ -26,7 +27,7 @@ impl Program for Decode {
         for sample in input {
             let index = self.index;
             match self.reader.read(*sample) {
-                Some(Heard::Frame(word)) => writeln!(output, "{index} frame {word:08X}")?,
+                Some(Heard::Frame(frame)) => writeln!(output, "{index} frame {frame}")?,
                 Some(Heard::Refused(number)) => writeln!(output, "{index} refused {number}")?,
                 None => {}
             }

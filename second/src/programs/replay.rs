@@ -2,9 +2,10 @@
 
 use std::io::{self, Write};
 
-use super::command::Command;
+use super::command::{Came, Command};
 use super::stream::Program;
 use crate::digits::pairs;
+use crate::frame::Frame;
 use crate::gateway::{Event, Gateway, Side};
 use crate::tally::{Tally, Thing};
 use crate::word;
@@ -42,7 +43,9 @@ impl Replay {
         if line.is_empty() || line[0] == b'#' {
             return Ok(());
         }
-        match Command::of(line) {
+        let command = Command::of(line);
+        self.tally.spelled(line, command.as_ref());
+        match command {
             Some(command) => self.obey(command, trace),
             None => self.not_a_line(trace),
         }
@@ -61,7 +64,7 @@ impl Replay {
                 self.room = room;
                 return Ok(());
             }
-            Command::Frame(side, line, word) => self.frame(side, line, word),
+            Command::Frame(side, line, came) => self.frame(side, line, came),
             Command::Modbus(message) => self.message(&message),
         };
         self.print(&event, trace)
@@ -75,13 +78,16 @@ impl Replay {
 
     /// Where a spare bit is set, the box as it was is asked what the frame would have brought
     /// without it; that alone shows what 16 stands before, and it is counted.
-    fn frame(&mut self, side: Side, line: u8, frame: u32) -> Event {
+    fn frame(&mut self, side: Side, line: u8, came: Came) -> Event {
         let mut before = self.gateway.clone();
+        let frame = came.frame();
         let given = self.gateway.frame(side, line, frame, self.room);
-        if word::spare_of(frame) != 0 {
-            let otherwise = before.frame(side, line, word::without_spare(frame), self.room);
-            self.tally.spare_frame(side, frame, &given, &otherwise);
+        if word::spare_of(frame.word) != 0 {
+            let word = word::without_spare(frame.word);
+            let otherwise = before.frame(side, line, Frame { word, ..frame }, self.room);
+            self.tally.spare_frame(side, frame.word, &given, &otherwise);
         }
+        self.tally.came(side, line, came, &given);
         given
     }
 
@@ -104,8 +110,8 @@ impl Replay {
         self.tally.event(event);
         let time = self.time;
         match event {
-            Event::Sent { line, word, .. } => writeln!(trace, "{time} sent {line} {word:08X}"),
-            Event::Passed { line, word } => writeln!(trace, "{time} passed {line} {word:08X}"),
+            Event::Sent { line, frame, .. } => writeln!(trace, "{time} sent {line} {frame}"),
+            Event::Passed { line, frame } => writeln!(trace, "{time} passed {line} {frame}"),
             Event::Dropped { line } => writeln!(trace, "{time} dropped {line}"),
             Event::Held { line, .. } => writeln!(trace, "{time} held {line}"),
             Event::Accepted { order } => writeln!(trace, "{time} accepted {}", order.unit),

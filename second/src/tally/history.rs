@@ -114,9 +114,9 @@ impl History {
     pub fn note(&mut self, event: &Event, now: u64) {
         match *event {
             Event::Held { line, word } => self.comes(line, word),
-            Event::Sent { line, owner, word } => match owner {
-                Owner::Thermostat => self.goes_out(line, word, now),
-                Owner::Modbus => self.order_goes_out(line, word),
+            Event::Sent { line, owner, frame } => match owner {
+                Owner::Thermostat => self.goes_out(line, frame.word, now),
+                Owner::Modbus => self.order_goes_out(line, frame.word),
             },
             Event::Passed { line, .. } => self.ends(line, Talk::Passed),
             Event::Dropped { line } => self.ends(line, Talk::Dropped),

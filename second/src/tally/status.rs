@@ -78,9 +78,9 @@ impl Tally {
             }
             Event::Sent {
                 owner: Owner::Modbus,
-                word,
+                frame,
                 ..
-            } => self.own_frame(*word),
+            } => self.own_frame(frame.word),
             Event::Outcome { order, bytes, .. } => {
                 if let Question::Status(_) = order.question {
                     self.count_all([Status::Outcome(order.function, exception(bytes))]);

@@ -109,9 +109,11 @@ impl Tally {
     fn entries(&self) -> Vec<Entry> {
         let counted = |(name, thing): (String, Thing)| Entry::once(name, self.of(thing));
         let mut all: Vec<Entry> = plain_and_refusals().into_iter().map(counted).collect();
+        all.extend(self.edges_read_entries());
         all.extend(self.spare_entries());
         all.extend(modbus().into_iter().map(counted));
         all.extend(self.status_entries());
+        all.extend(self.carried_entries());
         // Not every round has a short tail; a fixed vector always has one.
         let short = self.of(Thing::ShortListed);
         all.push(Entry::shown("listed: short tail", short));

@@ -1,6 +1,7 @@
-//! A box on the bench for the tests of the status: requests by the byte, what they are given, and what
-//! goes out.
+//! A box on the bench for the tests of the status and of the numbers carried along: requests by the
+//! byte, what they are given, and what goes out.
 
+use crate::frame::Frame;
 use crate::gateway::{Event, Gateway};
 use crate::modbus::closed;
 
@@ -51,11 +52,17 @@ pub fn ask(gateway: &mut Gateway, message: &[u8]) -> Option<u8> {
 
 /// The words that go out in so many ticks, each with its line.
 pub fn sent(gateway: &mut Gateway, ticks: u32) -> Vec<(u8, u32)> {
+    let frames = sent_frames(gateway, ticks).into_iter();
+    frames.map(|(line, frame)| (line, frame.word)).collect()
+}
+
+/// The same as frames.
+pub fn sent_frames(gateway: &mut Gateway, ticks: u32) -> Vec<(u8, Frame)> {
     let mut all = Vec::new();
     for _ in 0..ticks {
         for event in gateway.tick(16) {
-            if let Event::Sent { line, word, .. } = event {
-                all.push((line, word));
+            if let Event::Sent { line, frame, .. } = event {
+                all.push((line, frame));
             }
         }
     }

@@ -1,5 +1,6 @@
 //! Edges at the borders of their windows, and written frames read.
 
+use crate::frame::{Edges, Frame};
 use crate::samples::{self, Heard, Reader};
 
 /// Reads the samples and gives the answers with their places.
@@ -24,8 +25,13 @@ fn p11_and_the_run_numbers_of_edges() {
     assert_eq!(start(15), (39, Heard::Refused(2)));
 }
 
+/// "A bit lasts 20 samples when written", so each of its distances is 20.
 #[test]
 fn written_frames_are_read() {
+    let edges = Edges {
+        smallest: 20,
+        largest: 20,
+    };
     for word in [0, 1, 0x8019_0000, 0x5555_5555, 0xAAAA_AAAA, 0xFFFF_FFFF] {
         let mut reader = Reader::fresh();
         let mut all = vec![0; 24];
@@ -34,6 +40,6 @@ fn written_frames_are_read() {
             .iter()
             .filter_map(|sample| reader.read(*sample))
             .collect();
-        assert_eq!(heard, [Heard::Frame(word)]);
+        assert_eq!(heard, [Heard::Frame(Frame { word, edges })]);
     }
 }

@@ -7,7 +7,7 @@ use crate::tally::{Tally, Thing};
 use crate::word;
 
 /// What is missing after a script.
-fn missing(script: &str) -> Vec<String> {
+pub fn missing(script: &str) -> Vec<String> {
     let mut replay = Replay::fresh();
     stream::run(&mut replay, script.as_bytes());
     replay.tally.missing()

@@ -15,7 +15,7 @@ fn talking() -> Line {
     for _ in 0..99 {
         assert_eq!(line.tick(), Ticked::Nothing);
     }
-    assert_eq!(line.tick(), Ticked::Sent(READ_25));
+    assert_eq!(line.tick(), Ticked::Sent(READ_25.into()));
     line
 }
 
@@ -87,7 +87,10 @@ fn p12_the_longest_wait() {
 
 #[test]
 fn run_thermostat_reply_at_800_and_801() {
-    for (ticks, answer) in [(800, Answered::Passed(ACK_25)), (801, Answered::Dropped)] {
+    for (ticks, answer) in [
+        (800, Answered::Passed(ACK_25.into())),
+        (801, Answered::Dropped),
+    ] {
         let mut line = Line::fresh();
         for _ in 0..100 {
             line.tick();

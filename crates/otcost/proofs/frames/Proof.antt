@@ -7,16 +7,16 @@ use Rattle.otcost.proofs.frames.Statement.{statement}
 use Rattle.otcost.proofs.frames.Tie as tie
 
 abbrev Inv-loop : tie.InvT-loop
-Inv-loop block n room₀ line word gateway₀ count₀ left₀ room gateway count left = length room ≡ length room₀
+Inv-loop block n room₀ line frame gateway₀ count₀ left₀ room gateway count left = length room ≡ length room₀
 
 abbrev μ-loop : tie.MeasureT-loop
-μ-loop block n room₀ line word gateway₀ count₀ left₀ room gateway count left = left
+μ-loop block n room₀ line frame gateway₀ count₀ left₀ room gateway count left = left
 
 byte-at-requires : tie.Need-byte-at-requires Inv-loop μ-loop
 byte-at-requires c κs = search needs
 
-word-at-requires : tie.Need-word-at-requires Inv-loop μ-loop
-word-at-requires c κs = search needs
+frame-in-requires : tie.Need-frame-in-requires Inv-loop μ-loop
+frame-in-requires c κs = search needs
 
 loop-holds : tie.Need-loop-holds Inv-loop μ-loop
 loop-holds c = search needs
@@ -49,7 +49,7 @@ frames-spec =
     Inv-loop
     μ-loop
     byte-at-requires
-    word-at-requires
+    frame-in-requires
     loop-holds
     boiler-requires
     told-requires

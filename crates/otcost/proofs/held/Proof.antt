@@ -5,16 +5,16 @@ use Rattle.otcost.proofs.held.Statement.{statement}
 use Rattle.otcost.proofs.held.Tie as tie
 
 abbrev Inv-loop : tie.InvT-loop
-Inv-loop block n line word gateway₀ count₀ left₀ gateway count left = Unit {0}
+Inv-loop block n line frame gateway₀ count₀ left₀ gateway count left = Unit {0}
 
 abbrev μ-loop : tie.MeasureT-loop
-μ-loop block n line word gateway₀ count₀ left₀ gateway count left = left
+μ-loop block n line frame gateway₀ count₀ left₀ gateway count left = left
 
 byte-at-requires : tie.Need-byte-at-requires Inv-loop μ-loop
 byte-at-requires c κs = search needs
 
-word-at-requires : tie.Need-word-at-requires Inv-loop μ-loop
-word-at-requires c κs = search needs
+frame-in-requires : tie.Need-frame-in-requires Inv-loop μ-loop
+frame-in-requires c κs = search needs
 
 loop-holds : tie.Need-loop-holds Inv-loop μ-loop
 loop-holds c = search needs
@@ -44,7 +44,7 @@ held-spec =
     Inv-loop
     μ-loop
     byte-at-requires
-    word-at-requires
+    frame-in-requires
     loop-holds
     thermostat-requires
     told-requires

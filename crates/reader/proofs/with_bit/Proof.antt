@@ -26,7 +26,7 @@ add-t6 c = search needs
 returns : tie.Need-returns
 returns c =
     let a = c .before .before .args in
-    ap (λ (w : ℕ). record { word = w }) (shifted (a .active) (a .f .word) _ (c .before .bit-of .ensures .0))
+    ap (λ (w : ℕ). record { word = w; shortest = a .f .shortest; longest = a .f .longest }) (shifted (a .active) (a .f .word) _ (c .before .bit-of .ensures .0))
 
 pub with-bit-spec : {M : Type 1} → statement M
 with-bit-spec = tie.close (tie.spec bit-of-requires mul-t5 add-t6 returns)

@@ -5,7 +5,7 @@ use Prim.Native.Nat.{_≤_, _+_, _-_}
 use native.Mathlib.Omega.{arith}
 use borrow.Author.Needs.{needs}
 use lib.ListN.{length, drop}
-use Rattle.script.specs.Lines.{endOf}
+use Rattle.script.specs.Frames.{endOf}
 use Rattle.script.proofs.Fields.{space-at, none-at, end-of-all}
 use Rattle.script.proofs.field_end.Statement.{statement}
 use Rattle.script.proofs.field_end.Tie as tie

@@ -1,7 +1,7 @@
--- `trace::framed` meets its contract: the line's beginning, and the word in eight digits.
+-- `trace::framed` meets its contract: the line's beginning, the word in eight digits, and how straight the edges were.
 -- Assumes nothing.
 use borrow.Author.Needs.{needs}
-use Rattle.text.proofs.Puts.{puts-field, puts-last}
+use Rattle.text.proofs.Puts.{puts-append, puts-field, puts-last}
 use Rattle.trace.specs.Lines.{framed}
 use Rattle.trace.proofs.framed.Statement.{statement}
 use Rattle.trace.proofs.framed.Tie as tie
@@ -15,6 +15,9 @@ push-requires c κs = search needs
 hex-requires : tie.Need-hex-requires
 hex-requires c κs = search needs
 
+straight-requires : tie.Need-straight-requires
+straight-requires c κs = search needs
+
 push-requires-2 : tie.Need-push-requires-2
 push-requires-2 c κs = search needs
 
@@ -22,10 +25,12 @@ returns : tie.Need-returns
 unfolding framed
 returns c = rw (
   puts-field,
+  puts-append,
   puts-last,
-  ← c .before .before .before .on-line .ensures,
-  ← c .before .before .push .ensures,
-  ← c .before .hex .ensures,
+  ← c .before .before .before .before .on-line .ensures,
+  ← c .before .before .before .push .ensures,
+  ← c .before .before .hex .ensures,
+  ← c .before .straight .ensures,
 ) (c .push2 .ensures)
 
 pub framed-spec : {M : Type 1} → statement M
@@ -35,5 +40,6 @@ framed-spec =
     on-line-requires
     push-requires
     hex-requires
+    straight-requires
     push-requires-2
     returns)

@@ -26,9 +26,11 @@ impl Script {
         let mut frame = kind << 28 | u32::from(self.id()) << 16 | value;
         let place = (line as usize).clamp(1, 4) - 1;
         match self.random.below(10) {
-            // The word of a talk once more: later is later, though nothing in it is new.
+            // The word of a talk, or the one that is held, once more: later is later, though nothing
+            // in it is new but how straight its edges were.
             0 | 1 => frame = self.talked(place).unwrap_or(frame),
-            2..=5 if kind <= 2 => frame = self.status_frame(),
+            2 => frame = self.held(place).unwrap_or(frame),
+            3..=6 if kind <= 2 => frame = self.status_frame(),
             _ => {}
         }
         frame = self.in_its_time(place, frame);
@@ -42,9 +44,15 @@ impl Script {
     /// The word talked on a line, if it talks.
     pub(super) fn talked(&self, place: usize) -> Option<u32> {
         match self.model.gateway.lines[place].state {
-            State::Talks { item, .. } => Some(item.word),
+            State::Talks { item, .. } => Some(item.frame.word),
             State::Rests(_) => None,
         }
+    }
+
+    /// The word held on a line, if there is one.
+    fn held(&self, place: usize) -> Option<u32> {
+        let held = self.model.gateway.lines[place].held;
+        held.map(|item| item.frame.word)
     }
 
     /// A frame that answers the question and comes to this end.

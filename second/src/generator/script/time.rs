@@ -100,11 +100,11 @@ impl Script {
     /// A line that ends no talk and takes no order.
     pub(super) fn harmless(&mut self) {
         let line = match self.random.below(6) {
-            0 => b"thermostat 9 80190000".to_vec(),
-            1 => b"boiler 1 00190000".to_vec(),
+            0 => b"thermostat 009 80190000 018 0023".to_vec(),
+            1 => b"boiler 1 00190000 255 0".to_vec(),
             2 => b"modbus 0503007600016454".to_vec(),
             // Good but for a spare bit.
-            3 => b"thermostat 1 01190000".to_vec(),
+            3 => b"thermostat 1 01190000 20 20".to_vec(),
             4 => b"boiler 1 C1193280".to_vec(),
             _ => strange_lines::comment(&mut self.random),
         };
