@@ -6,6 +6,7 @@ use mathlib.Core.Path.{_≡_, sym, ap, _∙_, subst, subst⁻¹}
 use mathlib.Core.Logic.{_⊎_, ⊎-elim}
 use lib.ListN.{length}
 use Rattle.word.specs.declared.Frame.{Frame}
+use Rattle.turns.specs.declared.Talker.the-variants.{Modbus}
 use Rattle.turns.specs.Events.{Event}
 use Rattle.turns.specs.Events as line
 use Rattle.turns.specs.History.{doOf}
@@ -13,10 +14,12 @@ use Rattle.turns.specs.Scene.{Scene}
 use Rattle.turns.specs.Sight.{Came, Took, lineScene}
 use Rattle.turns.specs.Relay.{Relay}
 use Rattle.turns.specs.Talks.{Turns, Meets, GoodOnly}
+use Rattle.turns.specs.Carried.{OrdersUnmeasured}
 use Rattle.turns.proofs.Agree.{Into, Agrees, turns-too, meets-too, good-too, relay-too}
 use Rattle.turns.proofs.Turning.{turns}
 use Rattle.turns.proofs.Meets.{boiler-meets}
 use Rattle.turns.proofs.Good.{good-only}
+use Rattle.turns.proofs.Carried.{orders-unmeasured}
 use Rattle.turns.proofs.Relay.{relays}
 use Rattle.modbus.specs.Wrapping.{Wrapping, Lawful}
 use Rattle.promises.specs.Notes.{BoxNote, held, passed}
@@ -135,6 +138,9 @@ module _ {W : Wrapping} (law : Lawful W) (h : Inputs) {k : ℕ} (four : Four k) 
 
   pub box-good-only : GoodOnly (boxScene W k h (given W h))
   box-good-only = good-too agrees (good-only (E law h k))
+
+  pub box-orders-unmeasured : OrdersUnmeasured (boxScene W k h (given W h))
+  box-orders-unmeasured n q on = orders-unmeasured (E law h k) n q (down .goes Modbus n q on)
 
   pub box-relays : Relay (boxScene W k h (given W h))
   box-relays = relay-too agrees (relays (E law h k))

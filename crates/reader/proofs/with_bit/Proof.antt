@@ -4,7 +4,6 @@ use mathlib.Core.Path.{_≡_, ap}
 use mathlib.Core.Bool.{Bool, true, false}
 use Prim.Native.Nat.{ℕ, _+_, _*_, _%_, _^_}
 use native.Mathlib.Omega.{arith}
-use Rattle.word.specs.declared.Frame.{Frame}
 use Rattle.samples.specs.Reading.{bitOf}
 use borrow.Author.Needs.{needs}
 use Rattle.reader.proofs.with_bit.Statement.{statement}
