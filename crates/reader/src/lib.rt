@@ -206,8 +206,9 @@ fn with_bit(f: Frame, active: bool) -> Frame
     ensures { λ r. ⌜ r ≡ withBit f active ⌝ }
 {
     let bit = bit_of(active);
+    let word = f.word % 0x8000_0000 * 2 + bit;
     Frame {
-        word: f.word % 0x8000_0000 * 2 + bit,
+        word: word,
         shortest: f.shortest,
         longest: f.longest,
     }

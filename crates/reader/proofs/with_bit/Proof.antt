@@ -16,11 +16,11 @@ shifted false w b e = omega arith
 bit-of-requires : tie.Need-bit-of-requires
 bit-of-requires c κs = search needs
 
-mul-t5 : tie.Need-mul-t5
-mul-t5 c = search needs
+mul-word : tie.Need-mul-word
+mul-word c = search needs
 
-add-t6 : tie.Need-add-t6
-add-t6 c = search needs
+add-word : tie.Need-add-word
+add-word c = search needs
 
 returns : tie.Need-returns
 returns c =
@@ -28,4 +28,4 @@ returns c =
     ap (λ (w : ℕ). record { word = w; shortest = a .f .shortest; longest = a .f .longest }) (shifted (a .active) (a .f .word) _ (c .before .bit-of .ensures .0))
 
 pub with-bit-spec : {M : Type 1} → statement M
-with-bit-spec = tie.close (tie.spec bit-of-requires mul-t5 add-t6 returns)
+with-bit-spec = tie.close (tie.spec bit-of-requires mul-word add-word returns)
