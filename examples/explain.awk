@@ -76,10 +76,13 @@ function reply(bytes, outcome, unit, code, id) {
     return value(id, substr(bytes, 7, 4))
 }
 
+# How straight the edges of a frame were, where it was read from samples.
+function straight() { return NF > 5 ? "; its edges " $5 " to " $6 " samples apart" : "" }
+
 function meaning() {
     if ($1 == "-") return "this line of the script is wrong"
-    if ($2 == "sent") return "to boiler " $3 ": " question($4)
-    if ($2 == "passed") return "boiler " $3 "'s answer goes on to the thermostat: " answer(type_of($4), id_of($4), substr($4, 5, 4))
+    if ($2 == "sent") return "to boiler " $3 ": " question($4) straight()
+    if ($2 == "passed") return "boiler " $3 "'s answer goes on to the thermostat: " answer(type_of($4), id_of($4), substr($4, 5, 4)) straight()
     if ($2 == "accepted") return "the question for unit " $3 " is taken"
     if ($2 == "held") return "the thermostat's frame waits for its turn"
     if ($2 == "dropped") return "nobody wants this answer any more"

@@ -7,7 +7,7 @@ use mathlib.Core.List.{List, [], _∷_}
 use lib.Dec.{ltb, leb}
 use Rattle.word.specs.declared.Frame.{Frame}
 use Rattle.word.specs.Checks.{Check, judged}
-use Rattle.turns.specs.Line.{Line, line, withOrder, Step, says}
+use Rattle.turns.specs.Line.{Line, line, Step, says}
 use Rattle.turns.specs.declared.Query.{Query}
 use Rattle.turns.specs.declared.Status.{Status}
 use Rattle.turns.specs.declared.Said.{Said}
@@ -128,7 +128,7 @@ ticks (Talk y q a u) h o x m =
 -- ---- a thermostat frame, a boiler frame, an order
 
 frames : (l : Line) (f : Frame) → thermostatOf (bareLine l) (bare f) ≡ bareStep (thermostatOf l f)
-unfolding thermostatOf refusal
+unfolding thermostatOf refusal showsOf keepsOf
 frames l f = tested bareStep (thermostatChecks f) (refusal l) _
 
 replies : (t : Turn) (h : Slot) (o : Queue) (x : Talker) (m : Status) (y : Talker) (u : ℕ) (f : Frame) →
@@ -136,12 +136,7 @@ replies : (t : Turn) (h : Slot) (o : Queue) (x : Talker) (m : Status) (y : Talke
 unfolding answeredOf endedOf passesOf
 replies t h o x m Modbus u f = refl
 replies t (Full g v) o x m Thermostat u f = refl
-replies t Empty o x m Thermostat u f = go (leb u patience)
-  where
-    go : (b : Bool) → says (bareLine (endedOf (line t Empty o x m) Thermostat)) (cond b (Passed (bare f)) Dropped)
-        ≡ bareStep (says (endedOf (line t Empty o x m) Thermostat) (cond b (Passed f) Dropped))
-    go true = refl
-    go false = refl
+replies t Empty o x m Thermostat u f = ap (says _) (chosen bareSaid (leb u patience) _ _)
 
 answers : (t : Turn) (h : Slot) (o : Queue) (x : Talker) (m : Status) (f : Frame) →
     boilerOf (bareLine (line t h o x m)) (bare f) ≡ bareStep (boilerOf (line t h o x m) f)
@@ -158,16 +153,12 @@ asks (Rest r) h o x m = refl
 asks (Talk Thermostat q a u) h o x m = refl
 asks (Talk Modbus q a u) h o x m = refl
 
-orders : (l : Line) (w : Query) → orderOf (bareLine l) w ≡ bareStep (orderOf l w)
+orders : (l : Line) (w : Query) (a b : Bool) → lacksOf (l .status) w ≡ a → underWay l ≡ b → orderOf (bareLine l) w ≡ bareStep (orderOf l w)
 unfolding orderOf
-orders l w =
-    let lacks = says l (Exception 4) in
-    let busy = says l (Exception 6) in
-    let taken = says (withOrder l (Waits w 0)) Taken in
-    ap (λ (b : Bool). cond (lacksOf (l .status) w) (bareStep lacks) (cond b (bareStep busy) (bareStep taken)))
-    (asks (l .turn) (l .held) (l .order) (l .last) (l .status))
-    ∙ ap (cond (lacksOf (l .status) w) (bareStep lacks)) (chosen bareStep (underWay l) busy taken)
-    ∙ chosen bareStep (lacksOf (l .status) w) lacks (cond (underWay l) busy taken)
+orders l w true true ea eb = simp (asks (l .turn) (l .held) (l .order) (l .last) (l .status) ∙ eb, ea, eb)
+orders l w true false ea eb = simp (asks (l .turn) (l .held) (l .order) (l .last) (l .status) ∙ eb, ea, eb)
+orders l w false true ea eb = simp (asks (l .turn) (l .held) (l .order) (l .last) (l .status) ∙ eb, ea, eb)
+orders l w false false ea eb = simp (asks (l .turn) (l .held) (l .order) (l .last) (l .status) ∙ eb, ea, eb)
 
 -- every event, at every line
 pub bare-does : (l : Line) (e : Event) → doOf (bareLine l) (bareEvent e) ≡ bareStep (doOf l e)
@@ -175,7 +166,7 @@ bare-does l pass = refl
 bare-does l tick = ticks (l .turn) (l .held) (l .order) (l .last) (l .status)
 bare-does l (thermostat f) = frames l f
 bare-does l (boiler f) = answers (l .turn) (l .held) (l .order) (l .last) (l .status) f
-bare-does l (order w) = orders l w
+bare-does l (order w) = orders l w (lacksOf (l .status) w) (underWay l) refl refl
 
 -- ---- histories
 
