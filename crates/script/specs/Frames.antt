@@ -23,14 +23,21 @@ unfoldable pub endOf : List ℕ → ℕ
 endOf [] = 0
 endOf (b ∷ s) = cond (eqb b 32) 0 (suc (endOf s))
 
+-- the number up to the first space, and what stands behind the space
+unfoldable pub firstOf : List ℕ → Byte
+firstOf s = byteOf (take (endOf s) s)
+
+unfoldable pub restOf : List ℕ → List ℕ
+restOf s = drop (endOf s + 1) s
+
 abbrev pub spanBy : Byte → Byte → Span
 spanBy byte.Nothing g = span.Nothing
 spanBy (byte.Of s) byte.Nothing = span.Nothing
 spanBy (byte.Of s) (byte.Of g) = span.Of s g
 
--- a number up to the first space, and one behind it
+-- two numbers
 unfoldable pub spanOf : List ℕ → Span
-spanOf s = spanBy (byteOf (take (endOf s) s)) (byteOf (drop (endOf s + 1) s))
+spanOf s = spanBy (firstOf s) (byteOf (restOf s))
 
 -- behind a word: nothing; or a space, and the two
 unfoldable pub behindOf : List ℕ → Span

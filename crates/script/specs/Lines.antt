@@ -10,7 +10,7 @@ use Prim.Native.Nat.{ℕ, _+_, _/_}
 use mathlib.Core.Bool.{Bool, true, false, cond, _&&_}
 use mathlib.Core.List.{List, [], _∷_, _++_}
 use lib.Dec.{ltb, eqb}
-use lib.ListN.{length, take, drop}
+use lib.ListN.{length, drop}
 use Rattle.word.specs.declared.Frame.{Frame}
 use Rattle.script.specs.declared.Event.{Event}
 use Rattle.script.specs.declared.Event.the-variants.{Skip, Wrong, Ticks, Thermostat, Boiler, Message, Room}
@@ -20,8 +20,8 @@ use Rattle.script.specs.declared.decimal.Number.{Number}
 use Rattle.script.specs.declared.decimal.Number.the-variants as number
 use Rattle.script.specs.declared.frames.Framing.{Framing}
 use Rattle.script.specs.declared.frames.Framing.the-variants as framing
-use Rattle.script.specs.Digits.{boundedOf, byteOf, fits, pairsOf}
-use Rattle.script.specs.Frames.{endOf, framingOf}
+use Rattle.script.specs.Digits.{boundedOf, fits, pairsOf}
+use Rattle.script.specs.Frames.{firstOf, restOf, framingOf}
 
 -- what a line says, and the bytes of its message
 pub record Read : Type 0 where
@@ -65,9 +65,9 @@ framedBy byte.Nothing f boiler = Wrong
 framedBy (byte.Of n) framing.Nothing boiler = Wrong
 framedBy (byte.Of n) (framing.Of f) boiler = from boiler n f
 
--- a number up to the first space, and a frame behind it
+-- a line's number, and a frame
 unfoldable pub frameLine : Bool → List ℕ → Event
-frameLine boiler s = framedBy (byteOf (take (endOf s) s)) (framingOf (drop (endOf s + 1) s)) boiler
+frameLine boiler s = framedBy (firstOf s) (framingOf (restOf s)) boiler
 
 -- one byte or more, as many as a room of n bytes holds
 unfoldable pub messageLine : ℕ → List ℕ → Read

@@ -6,7 +6,9 @@ use crate::field_end;
 use crate::word;
 use word::Frame;
 ghost use mathlib.Core.Path.{_≡_};
-ghost use Rattle.script.specs.Frames.{spanOf, behindOf, framingOf};
+ghost use Prim.Native.Nat.{_≤_};
+ghost use lib.ListN.{length, drop};
+ghost use Rattle.script.specs.Frames.{firstOf, restOf, spanOf, behindOf, framingOf};
 
 // The smallest and the largest distance.
 pub(crate) enum Span {
@@ -19,18 +21,31 @@ pub(crate) enum Framing {
     Nothing,
 }
 
+// The number in the first field.
+pub(crate) fn first(s: &[u8]) -> Byte
+    ensures { λ r. ⌜ r ≡ firstOf (now (s .entry)) ⌝ }
+{
+    let end = field_end(s);
+    byte_of(&s[..end])
+}
+
+// Where the rest begins, behind the first space; the end, where there is none.
+pub(crate) fn rest(s: &[u8]) -> usize
+    ensures { λ r. ⌜ (r ≤ length (now (s .entry))) × (drop r (now (s .entry)) ≡ restOf (now (s .entry))) ⌝ }
+{
+    let end = field_end(s);
+    if end < s.len() { end + 1 } else { end }
+}
+
 // Two numbers, and a space between.
 fn span_of(s: &[u8]) -> Span
     ensures { λ r. ⌜ r ≡ spanOf (now (s .entry)) ⌝ }
 {
-    let end = field_end(s);
-    let Byte::Of(shortest) = byte_of(&s[..end]) else {
+    let Byte::Of(shortest) = first(s) else {
         return Span::Nothing;
     };
-    if s.len() <= end {
-        return Span::Nothing;
-    }
-    let Byte::Of(longest) = byte_of(&s[end + 1..]) else {
+    let at = rest(s);
+    let Byte::Of(longest) = byte_of(&s[at..]) else {
         return Span::Nothing;
     };
     Span::Of(shortest, longest)

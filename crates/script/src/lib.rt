@@ -5,10 +5,11 @@ mod pairs;
 
 use decimal::Byte;
 use decimal::Number;
-use decimal::byte_of;
 use decimal::number_of;
 use frames::Framing;
+use frames::first;
 use frames::frame_of;
+use frames::rest;
 use pairs::pairs;
 use places::word_at;
 use word::Frame;
@@ -127,14 +128,11 @@ fn from(boiler: bool, n: u8, f: Frame) -> Event
 fn frame(s: &[u8], boiler: bool) -> Event
     ensures { λ r. ⌜ r ≡ frameLine boiler (now (s .entry)) ⌝ }
 {
-    let end = field_end(s);
-    let Byte::Of(n) = byte_of(&s[..end]) else {
+    let Byte::Of(n) = first(s) else {
         return Event::Wrong;
     };
-    if s.len() <= end {
-        return Event::Wrong;
-    }
-    let Framing::Of(f) = frame_of(&s[end + 1..]) else {
+    let at = rest(s);
+    let Framing::Of(f) = frame_of(&s[at..]) else {
         return Event::Wrong;
     };
     from(boiler, n, f)
