@@ -19,7 +19,7 @@ use Rattle.samples.proofs.Lengths.{length-bits, length-samples}
 use Rattle.samples.proofs.Runs.{answers-append}
 use Rattle.samples.proofs.Stretches.{level-last}
 use Rattle.samples.proofs.Straight.{steady}
-use Rattle.samples.proofs.Tolerant.{tolerant, fresh-again}
+use Rattle.samples.proofs.Tolerant.{given, fresh-again}
 
 -- the stretch to a bit, from the level before it
 abbrev stretchTo : Bool → ℕ → Stretch
@@ -172,7 +172,7 @@ module _ (w : ℕ) (fits : w < 2 ^ 32) where
   read-line : answersOf freshOf line ≡ none 694 ++ (frame w 20 20 ∷ [])
   read-line =
       let k : length line - 1 ≡ 694 = omega (arith, length-line) in
-      tolerant 0 10 ways last (omega arith) (omega arith) (allowed false bits) (last-allowed level) length-32 _ the-frame (falls level)
+      given 0 10 ways last (omega arith) (omega arith) (allowed false bits) (last-allowed level) length-32 _ the-frame (falls level)
       ∙ ap (λ (k : ℕ). none k ++ (frame w 20 20 ∷ [])) k
 
   after-line : afterOf freshOf line ≡ freshOf

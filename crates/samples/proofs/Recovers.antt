@@ -50,22 +50,27 @@ pub recovers : (r : Reader) (w : ℕ) → w < 2 ^ 32
     → answersOf r (replicate 49 0 ++ samplesOf w) ≡ answersOf r (replicate 49 0) ++ (none 670 ++ (frame w 20 20 ∷ none 9))
 recovers r w h = as-fresh r (samplesOf w) (none 670 ++ (frame w 20 20 ∷ none 9)) (read-back w h)
 
--- and any frame at 01's distances
-pub recovers-line : (r : Reader) (s : ℕ) (l : List Stretch) (t : Stretch) (f : Frame) → FrameOf l t f → 8 ≤ s → s ≤ 14 → AllAllowed l → Allowed t → length l ≡ 32
+-- and any frame at 01's distances: it is the one of its stretches
+pub recovers-line : (r : Reader) (s : ℕ) (l : List Stretch) (t : Stretch) → 8 ≤ s → s ≤ 14 → AllAllowed l → Allowed t → length l ≡ 32
     → turned (levelAfter false l) t ≡ false
-    → answersOf r (replicate 49 0 ++ signalOf s (l ++ (t ∷ [])))
-    ≡ answersOf r (replicate 49 0) ++ (none (length (signalOf s (l ++ (t ∷ []))) - 1) ++ (answer.Frame f ∷ []))
-recovers-line r s l t f h gs hs hl ht len falls =
+    → (f : Frame) × FrameOf l t f × (answersOf r (replicate 49 0 ++ signalOf s (l ++ (t ∷ [])))
+    ≡ answersOf r (replicate 49 0) ++ (none (length (signalOf s (l ++ (t ∷ []))) - 1) ++ (answer.Frame f ∷ [])))
+recovers-line r s l t gs hs hl ht len falls =
     let x = signalOf s (l ++ (t ∷ [])) in
     let n : length (replicate 24 0 ++ x) ≡ 24 + length x = length-append (replicate 24 0) x in
     let first : List ℕ = replicate s 1 in
     let rest : List ℕ = stretchesSamples false (l ++ (t ∷ [])) in
     let p : length x ≡ length first + suc (length rest) = length-append first (0 ∷ rest) in
     let m : length (replicate 24 0 ++ x) - 1 ≡ 24 + (length x - 1) = omega arith in
-    as-fresh r x (none (length x - 1) ++ (answer.Frame f ∷ []))
-    (tolerant 0 s l t gs hs hl ht len f h falls
-    ∙ ap (λ (k : ℕ). none k ++ (answer.Frame f ∷ [])) m
-    ∙ ap (λ (y : List Answer). y ++ (answer.Frame f ∷ [])) (sym (replicate-append-replicate 24 (length x - 1) answer.Nothing)))
+    let d = tolerant 0 s l t gs hs hl ht len falls in
+    let f = d .0 in (
+      f,
+      d .1,
+      as-fresh r x (none (length x - 1) ++ (answer.Frame f ∷ []))
+          (d .2
+          ∙ ap (λ (k : ℕ). none k ++ (answer.Frame f ∷ [])) m
+          ∙ ap (λ (y : List Answer). y ++ (answer.Frame f ∷ [])) (sym (replicate-append-replicate 24 (length x - 1) answer.Nothing))),
+    )
 
 -- 48 aren't enough: a line that falls silent after 8 active samples. The 25th idle sample is refusal 2, 23 are left, and the frame of P1
 -- after them is not read.

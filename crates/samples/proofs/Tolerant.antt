@@ -63,11 +63,17 @@ module _ (n s : ℕ) (l : List Stretch) (t : Stretch) (gs : 8 ≤ s) (hs : s ≤
       ap (answersOf freshOf) split ∙ ending (levelOf (turned a t)) told quiet last
       ∙ ap (λ (k : ℕ). none k ++ (told ∷ [])) before-length
 
-  pub tolerant : (f : Frame) → FrameOf l t f → turned (levelAfter false l) t ≡ false → Last line (answer.Frame f)
-  tolerant f h falls =
+  -- a frame is given, and it is the one of these stretches
+  pub given : (f : Frame) → FrameOf l t f → turned (levelAfter false l) t ≡ false → Last line (answer.Frame f)
+  given f h falls =
       judged
       ∙ ap (λ (b : Bool). none (length line - 1) ++ (cond b no-stop (answer.Frame (measured (soFar l) (distanceOf t))) ∷ [])) falls
       ∙ ap (λ (g : Frame). none (length line - 1) ++ (answer.Frame g ∷ [])) (one-frame l t (measured (soFar l) (distanceOf t)) f (frame-of l t ht len) h)
+
+  pub tolerant : turned (levelAfter false l) t ≡ false → (f : Frame) × FrameOf l t f × Last line (answer.Frame f)
+  tolerant falls =
+      let f = measured (soFar l) (distanceOf t) in
+      (f, frame-of l t ht len, given f (frame-of l t ht len) falls)
 
   pub rising : turned (levelAfter false l) t ≡ true → Last line no-stop
   rising rises =

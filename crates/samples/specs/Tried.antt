@@ -1,4 +1,4 @@
--- The tried distances of 01 as whole runs of a fresh reader: P11, and the start edge at 14 and 15 and a middle edge at 24.
+-- The tried distances of 01 as whole runs of a fresh reader: P11, and the start edge at 14 and 15 and a middle edge at 24; and how straight the edges were.
 -- Assumes nothing: these are definitions.
 use mathlib.Core.List.{List, [], _∷_, _++_}
 use Prim.Native.Nat.{ℕ}
@@ -25,6 +25,11 @@ fives s d = levelsOf 0 s (plain d ∷ replicate 31 (plain 20) ++ (crossed 10 20 
 -- "P11 a middle edge at 17 is refusal 1, at 18 and 23 good."
 abbrev pub p11-cases : List Try
 p11-cases = try (levelsOf 0 10 (plain 17 ∷ [])) (Refused 1) ∷ try (fives 10 18) (frame 0x5555_5555 18 20) ∷ try (fives 10 23) (frame 0x5555_5555 20 23) ∷ []
+
+-- 02, Ask 3: of the frame AAAAAAAA the first distance, with the other edge in it, is 19 and the last one 22, the others are 20, and the start
+-- bit's middle edge is at 14
+abbrev pub edge-cases : List Try
+edge-cases = try (levelsOf 0 14 (crossed 10 19 ∷ replicate 31 (plain 20) ++ (plain 22 ∷ []))) (frame 0xaaaa_aaaa 19 22) ∷ []
 
 -- "start edge at 14 good, at 15 refusal 2; a middle edge at 24 refusal 2", at 15 and 24 for either level
 abbrev pub run-cases : List Try

@@ -5,3 +5,4 @@ mod Fields
 mod Bytes
 mod Said
 mod Determined
+mod Example

@@ -2,3 +2,4 @@
 mod Parts
 mod Says
 mod Determined
+mod Example

@@ -31,10 +31,8 @@ fn straight(t: Text, frame: Frame) -> Text
     if unmeasured(frame) {
         return t;
     }
-    t.push(b' ')
-        .decimal(frame.shortest as u64)
-        .push(b' ')
-        .decimal(frame.longest as u64)
+    let s = t.push(b' ').decimal(frame.shortest as u64);
+    s.push(b' ').decimal(frame.longest as u64)
 }
 
 fn framed(time: u64, word: &[u8], line: u8, frame: Frame) -> Text
