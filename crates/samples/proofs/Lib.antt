@@ -1,7 +1,7 @@
 -- The laws of reading and writing samples, and the promises: ReadBack and Again (what is written is read; nothing older than the last
--- answer is kept), Tolerant (errors don't add up), Only (nothing else is read), Bounds and Tried (what is refused, with its number; P11
--- and the other tried distances), Recovers (no reader stays deaf), Room (a lent room). The code that keeps to the rules: the crates
--- reader and writer.
+-- answer is kept), Tolerant (errors don't add up), Straight (how straight the edges were), Only (nothing else is read), Once (samples tell one
+-- frame), Bounds and Tried (what is refused, with its number; P11 and the other tried distances), Recovers (no reader stays deaf), Room (a lent
+-- room). The code that keeps to the rules: the crates reader and writer.
 pub mod Cases
 pub mod Steps
 pub mod Runs
@@ -19,3 +19,4 @@ pub mod Bounds
 pub mod Tried
 pub mod Settles
 pub mod Recovers
+pub mod Once

@@ -29,7 +29,7 @@ pub record Waits (r : Reader) : Type 0 where
 abbrev pub Settles : ℕ → Reader → Type 0
 Settles k r = Waits (afterOf r (replicate k 0))
 
-idle-step : (n : ℕ) → stepOf (waiting n) 0 ≡ goesOn (Waiting (min 24 (n + 1)))
+pub idle-step : (n : ℕ) → stepOf (waiting n) 0 ≡ goesOn (Waiting (min 24 (n + 1)))
 idle-step n = a-sample (waiting n) 0 (omega arith) ∙ ap goesOn (go (decLt n 24))
   where
     go : Dec (n < 24) → waitedOf n false ≡ Waiting (min 24 (n + 1))
