@@ -1,6 +1,7 @@
 // otcost: brings a box into a state and then lets one thing happen to it so many times, for tests/cost to count instructions. State, line,
 // words and message come from standard input, so that the compiler knows none of them; and each entry is called in two places, in the
-// set-up and in a loop that counts, so that it stays a function of its own and is measured as such. It prints how many were answered.
+// set-up and in a loop that counts, so that it stays a function of its own and is measured as such. It prints how many were answered; of samples,
+// the sum of what the frames hold.
 //
 // Standard input is a block of 128 bytes; those that don't come are 0:
 //   0        what happens: `s` a sample, `t` a tick, `h` a thermostat frame, `b` a boiler frame, `m` a message
@@ -24,10 +25,17 @@ use reader::Reader;
 use text::Text;
 use word::Frame;
 
+// What a frame holds, in one number: whatever is in no output the compiler leaves out.
+fn all_of(f: Frame) -> u32 {
+    let straight = std::num::wrapping_add_u32(f.shortest as u32, f.longest as u32);
+    std::num::wrapping_add_u32(f.word, straight)
+}
+
 fn answers(count: u32, a: Answer) -> u32 {
     match a {
         Answer::Nothing => count,
-        _ => std::num::wrapping_add_u32(count, 1),
+        Answer::Frame(f) => std::num::wrapping_add_u32(count, all_of(f)),
+        Answer::Refused(_) => std::num::wrapping_add_u32(count, 1),
     }
 }
 

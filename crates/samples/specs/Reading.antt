@@ -60,6 +60,7 @@ abbrev pub bitOf : Bool → ℕ
 bitOf true = 0
 bitOf false = 1
 
+-- the frame with that bit, below those before it
 abbrev pub withBit : Frame → Bool → Frame
 withBit f active = record { word = (f .word * 2 + bitOf active) % 2 ^ 32; shortest = f .shortest; longest = f .longest }
 
