@@ -4,13 +4,14 @@
 usage: tests/mbcases.py            writes the two files
        tests/mbcases.py --check    says whether they are what it writes; exit status 1 if not
 
-The requests and what 01 answers to each are typed by hand; only the checksum and the parity bit are worked out, bit by
-bit. Messages are bytes in hexadecimal, and what is typed here leaves the checksum out.
+The requests and what 01 answers to each are typed by hand, as bodies: unit, function, data. Only what a wrapping adds
+(the checksum, or transaction, protocol and length) and the parity bit are worked out. Messages are bytes in
+hexadecimal. Each body is run in both forms, the TCP one with a transaction of its own.
 
-A line of stdin is a message. For it stdout has `silent N` (refusal N), `reply ..`, or `order LINE WORD` and the reply
+A line of stdin is a serial message, or with `@` a TCP one. For it stdout has `silent N` (refusal N), `reply ..`, or `order LINE WORD` and the reply
 to each end that the order can have: the boiler's answer of type 4 or 5, of type 6, of type 7, none; of a read alone
-`lacking`, the reply where id 0 or 70 has no status to send; and `busy`, the reply while another order waits. `+ ..` asks for the checksum of the bytes alone; `= ..` has the reply written into lent
-rooms of 15, 16 and 20 bytes. A line with `#` is a title, in both.
+`lacking`, the reply where id 0 or 70 has no status to send; and `busy`, the reply while another order waits. `+ ..` asks for the checksum of the bytes alone; `= ..` (serial) and `~ ..` (TCP) have the reply
+written into lent rooms of 15, 16 and 20 bytes. A line with `#` is a title, in both.
 """
 
 import sys
@@ -47,6 +48,13 @@ def checksum(text):
 def sealed(text):
     """The message with its checksum."""
     return text + " " + checksum(text)
+
+
+def headed(text, transaction, protocol=0, length=None):
+    """The message with transaction, protocol and length before it, high bytes first (02, Ask 4)."""
+    count = len(octets(text)) if length is None else length
+    head = [number >> shift & 0xFF for number in (transaction, protocol, count) for shift in (8, 0)]
+    return (text_of(head) + " " + text).strip()
 
 
 def damaged(text):
@@ -92,9 +100,16 @@ def silent(refusal, message):
     case(message, "silent %d" % refusal)
 
 
+def both_forms(request, lines):
+    """A request in each form, and what is printed of it, where `lines` puts replies into the wrapping of the form."""
+    transaction = 0x1501 + 0x0107 * len(lines_in) & 0xFFFF
+    case(sealed(request), *lines(sealed))
+    case("@ " + headed(request, transaction), *lines(lambda body: headed(body, transaction)))
+
+
 def reply(request, answer):
     """A reply at once: an exception, or unit 5's."""
-    case(sealed(request), "reply " + sealed(answer))
+    both_forms(request, lambda wrapped: ["reply " + wrapped(answer)])
 
 
 def order(request, line, kind, data_id, value, acknowledged, invalid=None, unknown=None, alone=False):
@@ -116,16 +131,16 @@ def order(request, line, kind, data_id, value, acknowledged, invalid=None, unkno
         ("lacking", exception(0x04) if alone else None),
         ("busy", exception(0x06)),
     ]
-    replies = [" %s %s" % (end, sealed(answer)) for end, answer in ends if answer]
-    case(sealed(request), "order %d %s" % (line, word(kind, data_id, value)), *replies)
+    asks = "order %d %s" % (line, word(kind, data_id, value))
+    both_forms(request, lambda wrapped: [asks] + [" %s %s" % (end, wrapped(answer)) for end, answer in ends if answer])
 
 
-def rooms(request, answer):
+def rooms(mark, request, answer):
     """Rooms of 15, 16 and 20 bytes at the start of 20 bytes EE, which are shown whole."""
-    count = len(octets(sealed(answer)))
-    written = sealed(answer) + (20 - count) * " EE"
+    count = len(octets(answer))
+    written = answer + (20 - count) * " EE"
     untouched = text_of(20 * [0xEE])
-    case("= " + sealed(request), " refusal 15 " + untouched, *2 * [" count %d %s" % (count, written)])
+    case("%s %s" % (mark, request), " refusal 15 " + untouched, *2 * [" count %d %s" % (count, written)])
 
 
 # ---- what 01 says, in its order of checks
@@ -175,6 +190,50 @@ def silence():
     silent(14, sealed("01 80 00 19 00 01"))
     silent(14, sealed("05 83 00 76 00 01"))
     silent(14, sealed("01 FF"))
+
+
+def tcp_silence():
+    title("TCP: 0, 7 and 261 bytes are 11, whatever protocol and length say; 8 and 260 are read")
+    silent(11, "@ ")
+    silent(11, "@ 00 01 00 00 00 01 01")
+    silent(11, "@ 00 01 00 01 00 02 01")
+    silent(11, "@ " + headed("01 03" + 253 * " 00", 1))
+    silent(11, "@ " + headed("01 03" + 253 * " 00", 1, protocol=1, length=0))
+    silent(13, "@ 00 01 00 00 00 02 06 03")
+    silent(13, "@ " + headed("06 03" + 252 * " 00", 1))
+
+    title("TCP: protocol (17) before length (18), before unit (13) and function (14)")
+    silent(17, "@ 00 01 00 01 00 06 01 03 00 19 00 01")
+    silent(17, "@ 00 01 01 00 00 06 01 03 00 19 00 01")
+    silent(17, "@ 00 01 00 01 00 05 06 83 00 19 00 01")
+    silent(18, "@ 00 01 00 00 00 05 01 03 00 19 00 01")
+    silent(18, "@ 00 01 00 00 00 07 01 03 00 19 00 01")
+    silent(18, "@ 00 01 00 00 00 0C 01 03 00 19 00 01")
+    silent(18, "@ 00 01 00 00 01 06 01 03 00 19 00 01")
+    silent(18, "@ 00 01 00 00 00 05 06 83 00 19 00 01")
+    silent(13, "@ 00 01 00 00 00 06 06 83 00 19 00 01")
+    silent(14, "@ 00 01 00 00 00 06 01 83 00 19 00 01")
+
+    title("the one form's message is none of the other's: 12 is a serial one's, 17 and 18 are a TCP one's")
+    silent(12, "00 01 00 00 00 06 01 03 00 19 00 01")
+    silent(17, "@ " + sealed("01 03 00 19 00 01"))
+    silent(18, "@ " + sealed("01 06 00 00 00 01"))
+
+
+def guide():
+    title("Modbus messaging guide: the read of register 5 with its seven-byte header, to unit FF as printed, and to unit 1")
+    silent(13, "@ 15 01 00 00 00 06 FF 03 00 05 00 01")
+    case("@ 15 01 00 00 00 06 01 03 00 05 00 01",
+         "order 1 " + word(READ_DATA, 5, 0),
+         " 4 15 01 00 00 00 05 01 03 02 32 80",
+         " 6 15 01 00 00 00 03 01 83 04",
+         " 7 15 01 00 00 00 03 01 83 02",
+         " none 15 01 00 00 00 03 01 83 0B",
+         " lacking 15 01 00 00 00 03 01 83 04",
+         " busy 15 01 00 00 00 03 01 83 06")
+    title("a read of three registers, to unit 11 (hexadecimal) as it is often shown, and to unit 1")
+    silent(13, "@ 00 01 00 00 00 06 11 03 00 6B 00 03")
+    case("@ 00 01 00 00 00 06 01 03 00 6B 00 03", "reply 00 01 00 00 00 03 01 83 03")
 
 
 def exceptions():
@@ -289,7 +348,9 @@ def orders():
 
 def lent_rooms():
     title("a room of 15 is refusal 15 and stays; in 16 and 20 what is behind the reply stays")
-    rooms("05 03 00 76 00 01", "05 03 02 01 00")
+    rooms("=", sealed("05 03 00 76 00 01"), sealed("05 03 02 01 00"))
+    rooms("~", headed("05 03 00 76 00 01", 0x1501), headed("05 03 02 01 00", 0x1501))
+    rooms("~", headed("01 2B", 0xFFFE), headed("01 AB 01", 0xFFFE))
 
 
 # ---- the two files
@@ -319,7 +380,7 @@ def main(words):
     if words not in ([], ["--check"]):
         print(__doc__.split("\n\n")[1], file=sys.stderr)
         return 2
-    for part in (checksums, silence, exceptions, unit_5, orders, lent_rooms):
+    for part in (checksums, silence, tcp_silence, exceptions, unit_5, orders, guide, lent_rooms):
         part()
     files = [(FOLDER / "stdin", lines_in), (FOLDER / "stdout", lines_out)]
     if not words:

@@ -3,7 +3,7 @@
 
 use crate::frame::Frame;
 use crate::line::{Answered, Line, Owner, Ticked};
-use crate::modbus::{self, exceptions, Judged, Order};
+use crate::modbus::{self, exceptions, Judged, Order, Transaction, Wrapping};
 use crate::refusals;
 use crate::status::Question;
 
@@ -54,16 +54,22 @@ pub enum Event {
 
 #[derive(Clone)]
 pub struct Gateway {
+    /// "A box has either the serial or the TCP form" (02, Ask 4), from its start to its end.
+    pub wrapping: Wrapping,
     pub lines: [Line; 4],
     /// "Only one order waits in the whole box, from acceptance until its outcome."
     pub order: Option<Order>,
+    /// That of the order's own message: others come and are answered before its reply.
+    transaction: Transaction,
 }
 
 impl Gateway {
-    pub fn fresh() -> Gateway {
+    pub fn fresh(wrapping: Wrapping) -> Gateway {
         Gateway {
+            wrapping,
             lines: [Line::fresh(); 4],
             order: None,
+            transaction: 0,
         }
     }
 
@@ -135,32 +141,44 @@ impl Gateway {
         if room < REPLY_ROOM {
             return Event::Refused(refusals::ROOM);
         }
-        match modbus::judge(message) {
+        let message = match self.wrapping.taken_off(message) {
+            Ok(message) => message,
+            Err(number) => return Event::Refused(number),
+        };
+        match modbus::judge(message.body) {
             Judged::Refused(number) => Event::Refused(number),
-            Judged::Reply(bytes) => Event::Reply { bytes },
-            Judged::Order(order) => self.order(order),
+            Judged::Reply(body) => self.at_once(message.transaction, &body),
+            Judged::Order(order) => self.order(order, message.transaction),
+        }
+    }
+
+    fn at_once(&self, transaction: Transaction, body: &[u8]) -> Event {
+        Event::Reply {
+            bytes: self.wrapping.put_on(transaction, body),
         }
     }
 
     /// The last checks: "exception 04 at once where no such frame went out, after the offset check
     /// and before 06" (02, Ask 2); "an order already waiting (06, units 1 to 4 only); accepted".
-    fn order(&mut self, order: Order) -> Event {
-        let line = &mut self.lines[usize::from(order.unit) - 1];
+    fn order(&mut self, order: Order, transaction: Transaction) -> Event {
+        let place = usize::from(order.unit) - 1;
         let unknown = match order.question {
-            Question::Status(id) => line.status.of(id).is_none(),
+            Question::Status(id) => self.lines[place].status.of(id).is_none(),
             Question::Word(_) => false,
         };
-        let at_once = |code| Event::Reply {
-            bytes: modbus::exception(order.unit, order.function, code),
+        let exception = |code| {
+            let body = modbus::exception(order.unit, order.function, code);
+            self.at_once(transaction, &body)
         };
         if unknown {
-            return at_once(exceptions::DEVICE_FAILURE);
+            return exception(exceptions::DEVICE_FAILURE);
         }
         if self.order.is_some() {
-            return at_once(exceptions::DEVICE_BUSY);
+            return exception(exceptions::DEVICE_BUSY);
         }
-        line.order(order.question);
+        self.lines[place].order(order.question);
         self.order = Some(order);
+        self.transaction = transaction;
         Event::Accepted { order }
     }
 
@@ -170,7 +188,8 @@ impl Gateway {
             .order
             .take()
             .expect("an order talked, so one waits in the box");
-        let bytes = modbus::outcome(&order, answer);
+        let body = modbus::outcome(&order, answer);
+        let bytes = self.wrapping.put_on(self.transaction, &body);
         Event::Outcome {
             order,
             answer,

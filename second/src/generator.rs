@@ -1,6 +1,7 @@
 //! Random input for each of the five programs: valid, damaged and borderline mixed.
 
 mod frames;
+pub mod fresh_lines;
 mod messages;
 pub mod numbers;
 mod pulses;

@@ -5,10 +5,12 @@ pub mod exceptions;
 mod reply;
 mod request;
 mod rows;
+mod wrapping;
 
-pub use checksum::{checksum, closed};
+pub use checksum::checksum;
 pub use reply::{exception, outcome, Order};
 pub use rows::{Form, ROWS};
+pub use wrapping::{closed, Transaction, Wrapping};
 
 use crate::status::{self, Question};
 use crate::{refusals, word};
@@ -22,39 +24,33 @@ const VERSION: u16 = 0x0100;
 #[derive(Clone, PartialEq, Eq, Debug)]
 pub enum Judged {
     Refused(u8),
+    /// The body of a reply at once.
     Reply(Vec<u8>),
     /// Good by its form; the last checks are the box's.
     Order(Order),
 }
 
-/// "Order of checks: length 4 to 256; checksum; unit 1 to 5; function below 80; function served
-/// (else exception 01); exact length and byte count, then counts (03); offset (02); type for 41
-/// (03)"; what follows looks at the box (`Gateway::message`).
-pub fn judge(message: &[u8]) -> Judged {
-    if !(4..=256).contains(&message.len()) {
-        return Judged::Refused(refusals::MODBUS_LENGTH);
-    }
-    let (content, sum) = message.split_at(message.len() - 2);
-    if checksum(content) != *sum {
-        return Judged::Refused(refusals::MODBUS_CHECKSUM);
-    }
-    let (unit, function) = (content[0], content[1]);
+/// "Order of checks: .. unit 1 to 5; function below 80; function served (else exception 01); exact
+/// length and byte count, then counts (03); offset (02); type for 41 (03)". What comes before is the
+/// form's (`Wrapping::taken_off`), what follows looks at the box (`Gateway::message`).
+pub fn judge(body: &[u8]) -> Judged {
+    let (unit, function, data) = (body[0], body[1], &body[2..]);
     if !(1..=5).contains(&unit) {
         return Judged::Refused(refusals::MODBUS_UNIT);
     }
     if function >= 0x80 {
         return Judged::Refused(refusals::MODBUS_FUNCTION);
     }
-    let answer = answer_for(unit, function, &content[2..]);
+    let answer = answer_for(unit, function, data);
     answer.unwrap_or_else(|code| Judged::Reply(reply::exception(unit, function, code)))
 }
 
 /// The checks that are answered; an error is an exception's code.
-fn answer_for(unit: u8, function: u8, body: &[u8]) -> Result<Judged, u8> {
+fn answer_for(unit: u8, function: u8, data: &[u8]) -> Result<Judged, u8> {
     if !served(unit, function) {
         return Err(exceptions::ILLEGAL_FUNCTION);
     }
-    let request = request::read(function, body).ok_or(exceptions::ILLEGAL_VALUE)?;
+    let request = request::read(function, data).ok_or(exceptions::ILLEGAL_VALUE)?;
     if unit == OWN_UNIT {
         return own_register(function, &request);
     }
@@ -115,5 +111,5 @@ fn own_register(function: u8, request: &Request) -> Result<Judged, u8> {
         return Err(exceptions::ILLEGAL_ADDRESS);
     }
     let [high, low] = VERSION.to_be_bytes();
-    Ok(Judged::Reply(closed(&[OWN_UNIT, function, 2, high, low])))
+    Ok(Judged::Reply(vec![OWN_UNIT, function, 2, high, low]))
 }

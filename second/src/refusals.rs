@@ -18,3 +18,6 @@ pub const MODBUS_FUNCTION: u8 = 14;
 pub const ROOM: u8 = 15;
 // 02, Ask 1
 pub const SPARE_BITS: u8 = 16;
+// 02, Ask 4
+pub const TCP_PROTOCOL: u8 = 17;
+pub const TCP_LENGTH: u8 = 18;

@@ -6,8 +6,10 @@ use std::ops::Range;
 use std::time::{Duration, Instant};
 
 use crate::programs::Name;
-use pieces::{split, straight_run, tick_line, ticks, without_numbers, Piece};
+use pieces::{begins_a_box, split, straight_run, tick_line, ticks, without_numbers, Piece};
 
+/// So many boxes at the end may be needed to show a difference between two of them.
+const LAST_BOXES: usize = 3;
 /// Each try runs the product once, so there is an end to it.
 const MOST_TRIES: u32 = 200;
 const LONGEST_SHRINKING: Duration = Duration::from_secs(300);
@@ -31,6 +33,7 @@ pub fn shrink(name: Name, input: &[u8], differs: &mut dyn FnMut(&[u8]) -> bool) 
         differs,
     };
     shrinker.cut_the_end();
+    shrinker.cut_the_boxes_before();
     shrinker.cut_the_beginning();
     shrinker.drop_blocks(TRIES_FOR_NUMBERS);
     match name {
@@ -77,6 +80,18 @@ impl Shrinker<'_> {
                 differing = middle;
             } else {
                 equal = middle;
+            }
+        }
+    }
+
+    /// A new box knows nothing of those before it, so most differences show in the last one, and keep
+    /// its form there.
+    fn cut_the_boxes_before(&mut self) {
+        let begins = |place: &usize| begins_a_box(&self.pieces[*place]);
+        let boxes: Vec<usize> = (0..self.pieces.len()).filter(begins).collect();
+        for from in boxes.into_iter().rev().take(LAST_BOXES) {
+            if self.try_pieces(self.pieces[from..].to_vec()) {
+                return;
             }
         }
     }

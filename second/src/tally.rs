@@ -1,21 +1,30 @@
 //! How often each thing occurred, so that a comparison that never tried something says so.
 
 mod carried;
+mod echo;
 mod entry;
+mod fresh;
 mod grounds;
 mod history;
+mod modbus;
 mod read;
 mod spare;
 mod status;
 mod table;
+mod wrapped;
 
 use std::collections::{BTreeMap, BTreeSet};
 
 use crate::digits;
-use crate::gateway::Event;
-use crate::word;
+use crate::gateway::{Event, Side};
+use crate::modbus::Wrapping;
+use crate::programs::command::{Came, Command};
 use carried::{Carried, Memory};
+use echo::Echo;
+use fresh::Fresh;
 use history::History;
+use modbus::Modbus;
+use wrapped::Wrapped;
 
 pub use read::Read;
 pub use spare::Spare;
@@ -24,7 +33,7 @@ pub use status::Status;
 /// The kinds as the listing prints them.
 const KINDS: [&str; 6] = ["real", "s16", "u16", "pair", "spair", "raw"];
 
-/// What is counted. A `usize` is the place of a row in Modbus's table.
+/// What is counted.
 #[derive(Clone, Copy, PartialEq, Eq, PartialOrd, Ord, Debug)]
 pub enum Thing {
     ScriptLine,
@@ -44,18 +53,14 @@ pub enum Thing {
     Passed,
     Dropped,
     Refusal(u8),
-    Accepted(usize),
-    NormalReply(usize),
-    /// With the type of the boiler's answer, if there was one.
-    Outcome(usize, Option<u8>),
-    ExceptionAtOnce(u8),
-    ExceptionAsOutcome(u8),
-    OwnRead,
-    OwnException(u8),
+    Modbus(Wrapping, Modbus),
     Spare(Spare),
     Status(Status),
     Read(Read),
     Carried(Carried),
+    Wrapped(Wrapped),
+    Echo(Echo),
+    Fresh(Fresh),
 }
 
 #[derive(Default)]
@@ -69,6 +74,10 @@ pub struct Tally {
     history: History,
     /// The frames so far and their numbers.
     memory: Memory,
+    /// The transactions so far.
+    echo: echo::Memory,
+    /// The box as it is and the one before.
+    boxes: fresh::Memory,
 }
 
 impl Tally {
@@ -102,37 +111,53 @@ impl Tally {
         self.end_of_talk(event);
         self.status_event(event);
         self.carried_event(event);
+        self.modbus_event(event);
+        self.echo_event(event);
+        self.fresh_event(event);
         match event {
             Event::Sent { .. } => self.count(Thing::Sent),
             Event::Passed { .. } => self.count(Thing::Passed),
             Event::Dropped { .. } => self.count(Thing::Dropped),
             Event::Held { .. } => self.count(Thing::Held),
-            Event::Accepted { order } => self.count(Thing::Accepted(order.row)),
             Event::Refused(number) => self.count(Thing::Refusal(*number)),
-            Event::Reply { bytes } => self.reply_at_once(bytes),
-            Event::Outcome {
-                order,
-                answer,
-                bytes,
-                wait,
-            } => {
-                self.count(Thing::Outcome(order.row, answer.map(word::type_of)));
-                self.count(match exception(bytes) {
-                    Some(code) => Thing::ExceptionAsOutcome(code),
-                    None => Thing::NormalReply(order.row),
-                });
-                self.wait(*wait, *wait);
-            }
+            Event::Outcome { wait, .. } => self.wait(*wait, *wait),
+            Event::Accepted { .. } | Event::Reply { .. } => {}
         }
     }
 
-    /// At once units 1 to 4 give exceptions alone.
-    fn reply_at_once(&mut self, bytes: &[u8]) {
-        self.count(match (bytes[0] == 5, exception(bytes)) {
-            (true, Some(code)) => Thing::OwnException(code),
-            (true, None) => Thing::OwnRead,
-            (false, _) => Thing::ExceptionAtOnce(bytes[2]),
-        });
+    /// A line of a script, and what it was read as.
+    pub fn spelled(&mut self, line: &[u8], command: Option<&Command>) {
+        self.numbers_spelled(line, command);
+        self.fresh_spelled(line, command);
+    }
+
+    /// A tick that passed.
+    pub fn tick(&mut self) {
+        self.count(Thing::Tick);
+        self.fresh_tick();
+    }
+
+    /// A frame that comes, and what it is given.
+    pub fn came(&mut self, side: Side, line: u8, came: Came, given: &Event) {
+        self.numbers_came(side, line, came, given);
+        self.fresh_frame(side, line, came, given);
+    }
+
+    /// A message and what it was given.
+    pub fn message(&mut self, message: &[u8], given: &Event) {
+        self.asked(message, given);
+        self.refused_message(given);
+        self.wrapped_message(message, given);
+        self.echo_message(message, given);
+    }
+
+    /// A new box: what the one before brought is no ground for anything.
+    pub fn fresh(&mut self, form: Wrapping) {
+        self.fresh_box(form);
+        self.spoilt.clear();
+        self.history = History::default();
+        self.memory = Memory::default();
+        self.echo = echo::Memory::default();
     }
 
     /// Counts what the decode and real programs print.
@@ -168,9 +193,4 @@ impl Tally {
             });
         }
     }
-}
-
-/// The code of a reply that is an exception.
-fn exception(reply: &[u8]) -> Option<u8> {
-    (reply[1] >= 0x80).then_some(reply[2])
 }

@@ -2,6 +2,7 @@
 //! in vectors.txt; here are those that are too long to be typed.
 
 mod edges;
+mod tcp;
 
 use crate::digits;
 use crate::programs::Name;
@@ -25,6 +26,7 @@ pub fn all() -> Vec<Vector> {
     vectors.extend(frame_after_frame());
     vectors.extend(longest_messages());
     vectors.extend(edges::all());
+    vectors.extend(tcp::all());
     vectors
 }
 

@@ -1,10 +1,11 @@
-// Runs Modbus messages and prints what becomes of each. Standard input has a message to a line, in hexadecimal; a line that begins
-// with # is copied, one that begins with + is given its checksum, as it goes out, and the reply at once to one that begins with = is
-// written into rooms of 15, 16 and 20 bytes. For an accepted order the line, the word that goes out and the replies follow: to an
+// Runs Modbus messages and prints what becomes of each. Standard input has a message to a line, in hexadecimal: a serial one, or a TCP one where the
+// line begins with @. A line that begins with # is copied, one that begins with + is given its checksum, as it goes out, and the reply at once to one
+// that begins with = (serial) or ~ (TCP) is written into rooms of 15, 16 and 20 bytes. For an accepted order the line, the word that goes out and the replies follow: to an
 // acknowledgement with the value 3280, to types 6 and 7, to no answer, of a read alone where there is no status to send, and where another order
 // waits.
 use libc::STDIN_FILENO;
 use libc::STDOUT_FILENO;
+use modbus::MessageForm;
 use modbus::Order;
 use modbus::Outcome;
 use modbus::QuestionType;
@@ -41,9 +42,16 @@ fn bytes(s: &[u8]) {
     end();
 }
 
-fn reply(r: Reply) {
+// What a reply takes from its message.
+struct Envelope {
+    form: MessageForm,
+    transaction: u16,
+}
+
+fn reply(e: Envelope, r: Reply) {
     let mut room = [0xeeu8; 16];
-    match replies::write(r, &mut room) {
+    let form = e.form;
+    match replies::write(form, e.transaction, r, &mut room) {
         Written::Count(n) => {
             if n <= 16 {
                 bytes(&room[..n]);
@@ -53,10 +61,10 @@ fn reply(r: Reply) {
     }
 }
 
-fn outcome(o: Order, t: u8) {
+fn outcome(e: Envelope, o: Order, t: u8) {
     say(b" ");
     io::print_decimal(STDOUT_FILENO, t as u64);
-    reply(replies::answer(o, Outcome::Answer(t, 0x3280)));
+    reply(e, replies::answer(o, Outcome::Answer(t, 0x3280)));
 }
 
 fn word(w: u32) {
@@ -67,31 +75,39 @@ fn word(w: u32) {
     end();
 }
 
-fn order(o: Order) {
+fn order(e: Envelope, o: Order) {
     say(b"order ");
     io::print_decimal(STDOUT_FILENO, o.line as u64);
     let q = o.question;
     word(questions::word_of(q));
     let t = q.t;
     match t {
-        QuestionType::ReadData => outcome(o, 4),
-        QuestionType::WriteData => outcome(o, 5),
+        QuestionType::ReadData => outcome(e, o, 4),
+        QuestionType::WriteData => outcome(e, o, 5),
         QuestionType::InvalidData => {}
     }
-    outcome(o, 6);
-    outcome(o, 7);
+    outcome(e, o, 6);
+    outcome(e, o, 7);
     say(b" none");
-    reply(replies::answer(o, Outcome::NoAnswer));
+    reply(e, replies::answer(o, Outcome::NoAnswer));
     if q.alone {
         say(b" lacking");
-        reply(replies::exception(o, 0x04));
+        reply(e, replies::exception(o, 0x04));
     }
     say(b" busy");
-    reply(replies::exception(o, 0x06));
+    reply(e, replies::exception(o, 0x06));
 }
 
-fn message(s: &[u8]) {
-    match requests::request(s) {
+fn envelope_of(form: MessageForm, s: &[u8]) -> Envelope {
+    Envelope {
+        form: form,
+        transaction: requests::transaction(form, s),
+    }
+}
+
+fn message(form: MessageForm, s: &[u8]) {
+    let e = envelope_of(form, s);
+    match requests::request(form, s) {
         Reading::Silent(n) => {
             say(b"silent ");
             io::print_decimal(STDOUT_FILENO, n as u64);
@@ -99,9 +115,9 @@ fn message(s: &[u8]) {
         }
         Reading::AtOnce(r) => {
             say(b"reply");
-            reply(r);
+            reply(e, r);
         }
-        Reading::Accepted(o) => order(o),
+        Reading::Accepted(o) => order(e, o),
     }
 }
 
@@ -119,21 +135,23 @@ fn number(w: Written) {
 }
 
 // A room of n bytes, of 20 that are shown.
-fn roomed(r: Reply, n: usize) {
+fn roomed(e: Envelope, r: Reply, n: usize) {
     if 20 < n {
         return;
     }
     let mut room = [0xeeu8; 20];
-    number(replies::write(r, &mut room[..n]));
+    let form = e.form;
+    number(replies::write(form, e.transaction, r, &mut room[..n]));
     bytes(&room);
 }
 
-fn rooms(s: &[u8]) {
-    match requests::request(s) {
+fn rooms(form: MessageForm, s: &[u8]) {
+    let e = envelope_of(form, s);
+    match requests::request(form, s) {
         Reading::AtOnce(r) => {
-            roomed(r, 15);
-            roomed(r, 16);
-            roomed(r, 20);
+            roomed(e, r, 15);
+            roomed(e, r, 16);
+            roomed(e, r, 20);
         }
         Reading::Silent(_) => end(),
         Reading::Accepted(_) => end(),
@@ -182,6 +200,23 @@ fn parse(text: &[u8], room: &mut [u8]) -> usize
     n
 }
 
+// The form of a message, by what its line begins with; and whether its reply is written into rooms.
+fn form_of(mark: u8) -> MessageForm {
+    match mark {
+        b'@' => MessageForm::Tcp,
+        b'~' => MessageForm::Tcp,
+        _ => MessageForm::Serial,
+    }
+}
+
+fn roomy(mark: u8) -> bool {
+    match mark {
+        b'=' => true,
+        b'~' => true,
+        _ => false,
+    }
+}
+
 fn line(text: &[u8]) {
     if text.len() == 0 {
         return;
@@ -193,12 +228,13 @@ fn line(text: &[u8]) {
     }
     let mut room = io::buffer();
     let n = parse(text, &mut room);
-    if text[0] == b'+' {
+    let mark = text[0];
+    if mark == b'+' {
         checksum(&room[..n]);
-    } else if text[0] == b'=' {
-        rooms(&room[..n]);
+    } else if roomy(mark) {
+        rooms(form_of(mark), &room[..n]);
     } else {
-        message(&room[..n]);
+        message(form_of(mark), &room[..n]);
     }
 }
 

@@ -1,19 +1,19 @@
--- The order of checks, for every message, in 01's words: where a check fails and those before it hold, its answer is given, whatever fails
--- after it. And a body in its wrapping is read as the body; a small room is refused and stays.
+-- The order of checks, for every message in either form, in 01's words and 02's (Ask 4): where a check fails and those before it hold, its answer is given,
+-- whatever fails after it. And a small room is refused and stays.
 -- Assumes nothing.
 use mathlib.Core.Path.{_≡_, refl, ap, _∙_}
 use mathlib.Core.Logic.{_⊎_, inl, inr}
 use mathlib.Core.Bool.{Bool, true, false, cond, not, _&&_}
 use mathlib.Core.List.{List}
-use Prim.Native.Nat.{ℕ, _≤_, _<_}
+use Prim.Native.Nat.{ℕ, _+_, _-_, _≤_, _<_}
 use native.Mathlib.Omega.{arith}
 use borrow.Author.Tests.{le-leb, lt-leb, le-ltb, lt-ltb, eq-eqb, ne-eqb, eqb-false}
 use lib.Dec.{eqb}
 use lib.ListN.{length}
 use Rattle.word.specs.Checks.{Check, judged, Fails, here, later, Passes, none, all}
 use Rattle.word.proofs.Checks.{refuses, goes-on}
-use Rattle.crc.specs.Crc.{passesOf, sealed, unsealed}
-use Rattle.crc.proofs.Sealed.{length-sealed, sealed-passes, unsealed-sealed}
+use Rattle.crc.specs.Crc.{passesOf}
+use Rattle.places.specs.Bytes.{pairAt}
 use Rattle.modbus.specs.declared.Reading.{Reading}
 use Rattle.modbus.specs.declared.Reading.the-variants.{Silent, AtOnce}
 use Rattle.modbus.specs.declared.Reply.{Reply}
@@ -39,8 +39,8 @@ use Rattle.modbus.specs.Mapping.{
 }
 use Rattle.modbus.specs.Becomes.{Addressed, Serves}
 use Rattle.modbus.specs.Numbers.{refused, exception, two-value, bytes, readingVerdict, writtenVerdict}
-use Rattle.modbus.specs.Wire.{wireChecks, requestOf, bytesOf, placed, roomChecks, replyWritten, replyRoom}
-use Rattle.modbus.specs.Wrapping.{serial}
+use Rattle.modbus.specs.Wire.{placed, roomChecks}
+use Rattle.modbus.specs.Wrapping.{Wrapping, serial, tcp, reads, writes, replyWritten, replyRoom}
 use Rattle.modbus.proofs.Served.{serves, unserved}
 use Rattle.modbus.proofs.Formed.{RightForm, formed, unformed}
 
@@ -53,16 +53,32 @@ excepted u f cs next fails = ap readingVerdict (refuses (atOnce u f) next fails)
 
 -- "length 4 to 256; checksum"
 module _ (s : List ℕ) where
-  pub eleven : (length s < 4) ⊎ (256 < length s) → readingVerdict (serial .reads s) ≡ refused 11
-  unfolding requestOf
-  eleven (inl short) = silence (wireChecks s) (bodyRead (unsealed s)) (here (lt-leb 4 (length s) short))
-  eleven (inr long) =
-      silence (wireChecks s) (bodyRead (unsealed s)) (later (le-leb 4 (length s) (omega arith)) (here (lt-leb (length s) 256 long)))
+  refuses-with : (W : Wrapping) {n : ℕ} → Fails (W .checks s) n → readingVerdict (reads W s) ≡ refused n
+  unfolding reads
+  refuses-with W f = silence (W .checks s) (bodyRead (W .body s)) f
 
-  pub twelve : 4 ≤ length s → length s ≤ 256 → passesOf s ≡ false → readingVerdict (serial .reads s) ≡ refused 12
-  unfolding requestOf
-  twelve from upto other =
-      silence (wireChecks s) (bodyRead (unsealed s)) (later (le-leb 4 (length s) from) (later (le-leb (length s) 256 upto) (here other)))
+  pub eleven : (length s < 4) ⊎ (256 < length s) → readingVerdict (reads serial s) ≡ refused 11
+  eleven (inl short) = refuses-with serial (here (lt-leb 4 (length s) short))
+  eleven (inr long) = refuses-with serial (later (le-leb 4 (length s) (omega arith)) (here (lt-leb (length s) 256 long)))
+
+  pub twelve : 4 ≤ length s → length s ≤ 256 → passesOf s ≡ false → readingVerdict (reads serial s) ≡ refused 12
+  twelve from upto other = refuses-with serial (later (le-leb 4 (length s) from) (later (le-leb (length s) 256 upto) (here other)))
+
+  -- "11 reads 8 to 260; 17, protocol not 0; 18, length not what was handed over"
+  pub eleven-tcp : (length s < 8) ⊎ (260 < length s) → readingVerdict (reads tcp s) ≡ refused 11
+  eleven-tcp (inl short) = refuses-with tcp (here (lt-leb 8 (length s) short))
+  eleven-tcp (inr long) = refuses-with tcp (later (le-leb 8 (length s) (omega arith)) (here (lt-leb (length s) 260 long)))
+
+  pub seventeen : 8 ≤ length s → length s ≤ 260 → (pairAt s 2 ≡ 0 → ⊥) → readingVerdict (reads tcp s) ≡ refused 17
+  seventeen from upto other =
+      refuses-with tcp (later (le-leb 8 (length s) from) (later (le-leb (length s) 260 upto) (here (ne-eqb (pairAt s 2) 0 other))))
+
+  pub eighteen : 8 ≤ length s → length s ≤ 260 → pairAt s 2 ≡ 0 → (6 + pairAt s 4 ≡ length s → ⊥) → readingVerdict (reads tcp s) ≡ refused 18
+  eighteen from upto zero other =
+      refuses-with tcp
+      (later (le-leb 8 (length s) from)
+      (later (le-leb (length s) 260 upto)
+      (later (eq-eqb (pairAt s 2) 0 zero) (here (ne-eqb (pairAt s 4) (length s - 6) (λ is. other (omega arith)))))))
 
 -- "unit 1 to 5; function below 80"
 module _ (b : List ℕ) where
@@ -162,23 +178,15 @@ module _ (u : ℕ) (a : Fields) where
     unfolding mappedOf
     found = goes-on (atOnce u (a .function)) (foundAs u a (firstOf mappingRows a)) {cs = offsetChecks a} (all (ap not even-so) none)
 
--- a body with its checksum behind it is read as the body
-pub unwrapped : (b : List ℕ) → 2 ≤ length b → length b ≤ 254 → requestOf (sealed b) ≡ bodyRead b
-unfolding requestOf
-unwrapped b h k =
-    let n = length-sealed b in
-    goes-on Silent (bodyRead (unsealed (sealed b))) {cs = wireChecks (sealed b)}
-    (all (le-leb 4 (length (sealed b)) (omega arith)) (all (le-leb (length (sealed b)) 256 (omega arith)) (all (sealed-passes b) none)))
-    ∙ ap bodyRead (unsealed-sealed b)
-
 -- refusal 15: "lent room below 16 bytes (reply)", and "every lent byte stay[s]"
-pub fifteen : (r : Reply) (room : List ℕ) → length room < 16 → (writtenVerdict (replyWritten r room) ≡ refused 15) × (replyRoom r room ≡ room)
-unfolding replyWritten replyRoom
-fifteen r room low =
-    let small : Fails (roomChecks room) 15 = here (lt-leb 16 (length room) low) in
-    (ap writtenVerdict (refuses Refused (Count (length (bytesOf r))) small), refuses (λ n. room) (placed (bytesOf r) room) small)
+module _ (W : Wrapping) (t : ℕ) (r : Reply) (room : List ℕ) where
+  pub fifteen : length room < 16 → (writtenVerdict (replyWritten W t r room) ≡ refused 15) × (replyRoom W t r room ≡ room)
+  unfolding replyWritten replyRoom
+  fifteen low =
+      let small : Fails (roomChecks room) 15 = here (lt-leb 16 (length room) low) in
+      (ap writtenVerdict (refuses Refused (Count (length (writes W t r))) small), refuses (λ n. room) (placed (writes W t r) room) small)
 
--- and 16 bytes are enough
-pub sixteen : (r : Reply) (room : List ℕ) → 16 ≤ length room → writtenVerdict (replyWritten r room) ≡ bytes (length (bytesOf r))
-unfolding replyWritten
-sixteen r room h = ap writtenVerdict (goes-on Refused (Count (length (bytesOf r))) (all (le-leb _ (length room) (omega (arith, h))) none))
+  -- and 16 bytes are enough
+  pub sixteen : 16 ≤ length room → writtenVerdict (replyWritten W t r room) ≡ bytes (length (writes W t r))
+  unfolding replyWritten
+  sixteen h = ap writtenVerdict (goes-on Refused (Count (length (writes W t r))) (all (le-leb _ (length room) (omega (arith, h))) none))

@@ -17,5 +17,6 @@ pub mod Spelled
 pub mod Apart
 pub mod Total
 pub mod Becomes
+pub mod Arrives
 pub mod Sent
 pub mod Answered

@@ -11,7 +11,6 @@ use lib.Dec.{eqb}
 use Rattle.word.specs.Checks.{Check, judged, Fails, Passes, all}
 use Rattle.word.proofs.Checks.{refuses, goes-on, either}
 use Rattle.word.proofs.Clash.{clash}
-use Rattle.crc.specs.Crc.{unsealed}
 use Rattle.modbus.specs.declared.Order.{Order}
 use Rattle.modbus.specs.declared.Reading.the-variants.{Silent, AtOnce, Accepted}
 use Rattle.modbus.specs.declared.Reply.{Reply}
@@ -41,7 +40,7 @@ use Rattle.modbus.specs.Mapping.{
   formRead,
   bodyRead,
 }
-use Rattle.modbus.specs.Wire.{wireChecks, requestOf}
+use Rattle.modbus.specs.Wrapping.{Wrapping, reads}
 
 -- where every refusal is another answer, each check has passed
 pub passed : {A : Type 0} (cs : List Check) (refusal : ℕ → A) (next r : A) → ((n : ℕ) → refusal n ≡ r → ⊥) → judged cs refusal next ≡ r
@@ -106,10 +105,10 @@ taken b o e =
         (l, (omega (arith, leb-true 1 (unitOf b) lo), omega (arith, other, leb-true (unitOf b) 5 hi)))
 
 -- a whole message that is read as an order: it passes, and its body is read so
-pub accepted : (s : List ℕ) (o : Order) → requestOf s ≡ Accepted o → Passes (wireChecks s) × (bodyRead (unsealed s) ≡ Accepted o)
-unfolding requestOf
-accepted s o e = passed (wireChecks s) Silent (bodyRead (unsealed s)) (Accepted o) (silent-never o) e
+pub accepted : (W : Wrapping) (s : List ℕ) (o : Order) → reads W s ≡ Accepted o → Passes (W .checks s) × (bodyRead (W .body s) ≡ Accepted o)
+unfolding reads
+accepted W s o e = passed (W .checks s) Silent (bodyRead (W .body s)) (Accepted o) (silent-never o) e
 
 -- "Units 1 to 4 are the lines of the same number"; "Unit 5 .. never makes an order"
-pub on-line : (s : List ℕ) (o : Order) → requestOf s ≡ Accepted o → (o .line ≡ unitOf (unsealed s)) × ((1 ≤ o .line) × (o .line ≤ 4))
-on-line s o e = taken (unsealed s) o (accepted s o e .1)
+pub on-line : (W : Wrapping) (s : List ℕ) (o : Order) → reads W s ≡ Accepted o → (o .line ≡ unitOf (W .body s)) × ((1 ≤ o .line) × (o .line ≤ 4))
+on-line W s o e = taken (W .body s) o (accepted W s o e .1)

@@ -1,15 +1,19 @@
--- Unit 5, byte by byte: a body and the body of its reply at once, as 01 has them. Bodies are shown without their checksums. (For every
--- body: proofs/Becomes; the lines' replies: proofs/Answered.)
+-- Unit 5, byte by byte: a body and the body of its reply at once, as 01 has them; and one whole message in either form. (For every body: proofs/Becomes;
+-- the lines' replies: proofs/Answered; every message: proofs/Arrives.)
 -- Assumes nothing.
 use mathlib.Core.Path.{_≡_, refl}
 use mathlib.Core.List.{List, [], _∷_}
 use Prim.Native.Nat.{ℕ}
 use Rattle.places.specs.Bytes.{pairAt}
+use Rattle.crc.specs.Crc.{crcBits, crcFrom, crcOf, sealed, passesOf}
+use Rattle.modbus.specs.declared.MessageForm.{MessageForm}
+use Rattle.modbus.specs.declared.MessageForm.the-variants.{Serial, Tcp}
 use Rattle.modbus.specs.declared.Reading.{Reading}
 use Rattle.modbus.specs.declared.Reading.the-variants.{Silent, AtOnce, Accepted}
 use Rattle.modbus.specs.Shape.{readFormed, manyFormed, bothFormed, formedOf, requestFields}
 use Rattle.modbus.specs.Mapping.{servedOf, ownOf, bodyRead}
 use Rattle.modbus.specs.Wire.{bodyOf}
+use Rattle.modbus.specs.Wrapping.{wrappingOf, reads, writes}
 
 abbrev pub comesBack : Reading → List ℕ
 comesBack (Silent n) = []
@@ -45,3 +49,24 @@ table =
 pub printed : All table
 unfolding pairAt servedOf readFormed manyFormed bothFormed formedOf requestFields ownOf bodyRead bodyOf
 printed = (refl, (refl, (refl, (refl, (refl, (refl, (refl, (refl, tt))))))))
+
+-- ---- a whole message in each form: the same body, and the same body of its reply
+
+module _ (f : MessageForm) (s : List ℕ) where
+  replied : Reading → List ℕ
+  replied (Silent n) = []
+  replied (AtOnce r) = writes (wrappingOf f) (wrappingOf f .transaction s) r
+  replied (Accepted o) = []
+
+  pub goesBack : List ℕ
+  goesBack = replied (reads (wrappingOf f) s)
+
+pub printed-serial : goesBack Serial (0x05 ∷ 0x03 ∷ 0x00 ∷ 0x76 ∷ 0x00 ∷ 0x01 ∷ 0x64 ∷ 0x54 ∷ []) ≡ 0x05 ∷ 0x03 ∷ 0x02 ∷ 0x01 ∷ 0x00 ∷ 0x48 ∷ 0x14 ∷ []
+unfolding pairAt servedOf readFormed formedOf requestFields ownOf bodyRead bodyOf reads writes goesBack replied passesOf sealed crcOf crcFrom crcBits
+printed-serial = refl
+
+-- transaction 1501; 6 bytes there, 5 back
+pub printed-tcp : goesBack Tcp (0x15 ∷ 0x01 ∷ 0x00 ∷ 0x00 ∷ 0x00 ∷ 0x06 ∷ 0x05 ∷ 0x03 ∷ 0x00 ∷ 0x76 ∷ 0x00 ∷ 0x01 ∷ [])
+    ≡ 0x15 ∷ 0x01 ∷ 0x00 ∷ 0x00 ∷ 0x00 ∷ 0x05 ∷ 0x05 ∷ 0x03 ∷ 0x02 ∷ 0x01 ∷ 0x00 ∷ []
+unfolding pairAt servedOf readFormed formedOf requestFields ownOf bodyRead bodyOf reads writes goesBack replied
+printed-tcp = refl

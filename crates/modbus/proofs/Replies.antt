@@ -1,4 +1,4 @@
--- A reply's bytes: at most 10, so a room of 16 always suffices; where there is a value, it is the one that the order came to.
+-- A reply's body: at most 8 bytes, so a room of 16 always suffices; where there is a value, it is the one that the order came to.
 -- Assumes nothing.
 use mathlib.Core.Path.{_≡_, refl}
 use mathlib.Core.Bool.{Bool, true, false, cond, _||_}
@@ -7,7 +7,6 @@ use Prim.Native.Nat.{ℕ, _*_, _%_, _≤_}
 use native.Mathlib.Omega.{arith}
 use lib.Dec.{lit≤, eqb}
 use lib.ListN.{length, getD}
-use Rattle.crc.proofs.Sealed.{length-sealed}
 use Rattle.places.specs.Bytes.{pairAt, pair}
 use Rattle.places.proofs.Place.{pair-back}
 use Rattle.modbus.specs.declared.Form.{Form}
@@ -17,9 +16,10 @@ use Rattle.modbus.specs.declared.Outcome.the-variants.{Answer}
 use Rattle.modbus.specs.declared.Reply.{Reply}
 use Rattle.modbus.specs.declared.Reply.the-variants.{Exception, Value, Offset, Zero, Whole}
 use Rattle.modbus.specs.Outcomes.{exceptionOf, codeOf, ordinaryOf, ofInvalid, normalOf, answerOf}
-use Rattle.modbus.specs.Wire.{bodyOf, ValueAt, value, offset-value, whole, bytesOf}
-use Rattle.modbus.specs.Wrapping.{Coded}
+use Rattle.modbus.specs.Wire.{bodyOf, ValueAt, value, offset-value, whole}
+use Rattle.modbus.specs.Lawful.{Coded}
 
+-- no reply of 01 has a longer body
 pub short-body : (r : Reply) → length (bodyOf r) ≤ 8
 unfolding bodyOf
 short-body (Exception u f c) = lit≤ tt
@@ -27,11 +27,6 @@ short-body (Value u f v) = lit≤ tt
 short-body (Offset u f o v) = lit≤ tt
 short-body (Zero u f) = lit≤ tt
 short-body (Whole u o v t) = lit≤ tt
-
--- "No reply of 01 is longer than 10 bytes"
-pub short : (r : Reply) → length (bytesOf r) ≤ 10
-unfolding bytesOf
-short r = omega (arith, length-sealed (bodyOf r), short-body r)
 
 -- ---- the replies to an answer of value v
 

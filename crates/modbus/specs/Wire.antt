@@ -1,39 +1,22 @@
--- The serial wrapping (01, 'Modbus' and 'Numbered answers'): a message and its checksum, a reply's bytes, and a lent room.
+-- A reply's body, and a lent room (01, 'Modbus' and 'Numbered answers').
 -- Assumes nothing: these are definitions.
 use Prim.Native.Nat.{ℕ, _+_, _*_, _%_}
 use mathlib.Core.Path.{_≡_}
 use mathlib.Core.List.{List, [], _∷_, _++_}
 use lib.Dec.{leb}
 use lib.ListN.{length, getD, drop}
-use Rattle.word.specs.Checks.{Check, must, judged}
+use Rattle.word.specs.Checks.{Check, must}
 use Rattle.places.specs.Bytes.{pair}
-use Rattle.crc.specs.Crc.{passesOf, sealed, unsealed}
-use Rattle.modbus.specs.Mapping.{bodyRead}
-use Rattle.modbus.specs.declared.Reading.{Reading}
-use Rattle.modbus.specs.declared.Reading.the-variants.{Silent}
 use Rattle.modbus.specs.declared.Reply.{Reply}
 use Rattle.modbus.specs.declared.Reply.the-variants.{Exception, Value, Offset, Zero, Whole}
-use Rattle.modbus.specs.declared.Written.{Written}
-use Rattle.modbus.specs.declared.Written.the-variants.{Count, Refused}
 
--- "Order of checks: length 4 to 256; checksum;" and then those of the body
-abbrev pub wireChecks : List ℕ → List Check
-wireChecks s = must 11 (leb 4 (length s)) ∷ must 11 (leb (length s) 256) ∷ must 12 (passesOf s) ∷ []
-
-unfoldable pub requestOf : List ℕ → Reading
-requestOf s = judged (wireChecks s) Silent (bodyRead (unsealed s))
-
--- a reply's bytes before its checksum; an exception sets the function's highest bit
+-- unit, function and data; an exception sets the function's highest bit
 unfoldable pub bodyOf : Reply → List ℕ
 bodyOf (Exception u f c) = u ∷ (f % 0x80 + 0x80) ∷ c ∷ []
 bodyOf (Value u f v) = u ∷ f ∷ 0x02 ∷ pair v []
 bodyOf (Offset u f o v) = u ∷ f ∷ pair o (pair v [])
 bodyOf (Zero u f) = u ∷ f ∷ 0x00 ∷ []
 bodyOf (Whole u o v t) = u ∷ 0x41 ∷ pair o (pair v (0x00 ∷ (t % 16 * 16) ∷ []))
-
--- all of a reply's bytes
-unfoldable pub bytesOf : Reply → List ℕ
-bytesOf r = sealed (bodyOf r)
 
 -- where the body of a reply has the boiler's value
 pub data ValueAt (b : List ℕ) : ℕ → Type 0 where
@@ -54,9 +37,3 @@ least-room = 16
 
 abbrev pub roomChecks : List ℕ → List Check
 roomChecks room = must 15 (leb least-room (length room)) ∷ []
-
-unfoldable pub replyWritten : Reply → List ℕ → Written
-replyWritten r room = judged (roomChecks room) Refused (Count (length (bytesOf r)))
-
-unfoldable pub replyRoom : Reply → List ℕ → List ℕ
-replyRoom r room = judged (roomChecks room) (λ n. room) (placed (bytesOf r) room)

@@ -1,58 +1,74 @@
--- A wrapping of messages and replies, and what the box's promises use of one.
+-- The two wrappings of messages and replies (01, 'Modbus'; 02, Ask 4): from a message's bytes to its body, and from a body to its bytes. Everything
+-- behind them (checks, rows, outcomes, replies) speaks of bodies.
 -- Assumes nothing: these are definitions.
-use Prim.Native.Nat.{ℕ, _≤_}
-use mathlib.Core.Path.{_≡_}
-use mathlib.Core.List.{List, []}
-use lib.ListN.{length}
-use Rattle.crc.specs.Crc.{unsealed}
-use Rattle.modbus.specs.declared.Form.{Form}
-use Rattle.modbus.specs.declared.Form.the-variants as form
-use Rattle.modbus.specs.declared.Order.{Order}
+use Prim.Native.Nat.{ℕ, _-_}
+use mathlib.Core.List.{List, [], _∷_, _++_}
+use lib.Dec.{eqb, leb}
+use lib.ListN.{length, drop}
+use Rattle.word.specs.Checks.{Check, must, judged}
+use Rattle.places.specs.Bytes.{pairAt, pair}
+use Rattle.crc.specs.Crc.{passesOf, sealed, unsealed}
+use Rattle.modbus.specs.declared.MessageForm.{MessageForm}
+use Rattle.modbus.specs.declared.MessageForm.the-variants.{Serial, Tcp}
 use Rattle.modbus.specs.declared.Reading.{Reading}
-use Rattle.modbus.specs.declared.Reading.the-variants as reading
+use Rattle.modbus.specs.declared.Reading.the-variants.{Silent}
 use Rattle.modbus.specs.declared.Reply.{Reply}
-use Rattle.modbus.specs.declared.Reply.the-variants.{Exception, Value}
-use Rattle.modbus.specs.Wire.{least-room, requestOf, bodyOf, bytesOf}
+use Rattle.modbus.specs.declared.Written.{Written}
+use Rattle.modbus.specs.declared.Written.the-variants.{Count, Refused}
+use Rattle.modbus.specs.Mapping.{bodyRead}
+use Rattle.modbus.specs.Wire.{bodyOf, placed, roomChecks}
 
--- how the bytes of a message are read, how those of a reply are written, and what of these is the body (unit, function, data)
 pub record Wrapping : Type 0 where
-  pub reads : List ℕ → Reading
-  pub writes : Reply → List ℕ
+  -- what must hold of a message before its body is looked at, and the numbers of the silence where it doesn't
+  pub checks : List ℕ → List Check
+  pub numbers : List ℕ
+  -- what its reply brings back, and the body: unit, function, data
+  pub transaction : List ℕ → ℕ
   pub body : List ℕ → List ℕ
+  -- and back: a transaction and a body
+  pub wraps : ℕ → List ℕ → List ℕ
 
--- the serial line's
+-- "Order of checks: length 4 to 256; checksum;" and then those of the body. A serial message has no transaction
+abbrev pub serialChecks : List ℕ → List Check
+serialChecks s = must 11 (leb 4 (length s)) ∷ must 11 (leb (length s) 256) ∷ must 12 (passesOf s) ∷ []
+
 abbrev pub serial : Wrapping
-serial = record { reads = requestOf; writes = bytesOf; body = unsealed }
+serial = record { checks = serialChecks; numbers = 11 ∷ 12 ∷ []; transaction = λ s. 0; body = unsealed; wraps = λ t b. sealed b }
 
--- ---- what the box uses of a wrapping
+-- "11 reads 8 to 260; 17, protocol not 0; 18, length not what was handed over; in that order in place of 12"
+abbrev pub tcpChecks : List ℕ → List Check
+tcpChecks s =
+    must 11 (leb 8 (length s))
+    ∷ must 11 (leb (length s) 260)
+    ∷ must 17 (eqb (pairAt s 2) 0)
+    ∷ must 18 (eqb (pairAt s 4) (length s - 6))
+    ∷ []
 
--- the two replies with offset and value differ in their function
-abbrev pub Coded : ℕ → Form → Type 0
-Coded f form.OffsetValue = f ≡ 0x06
-Coded f form.OffsetOne = f ≡ 0x10
-Coded f form.Value = Unit {0}
-Coded f form.Zero = Unit {0}
-Coded f form.Never = Unit {0}
-Coded f form.ValueOfInvalid = Unit {0}
-Coded f form.Whole = Unit {0}
+-- "transaction (2 bytes, echoed), protocol (2 bytes, 0), length (2 bytes, unit and what follows), unit, function and data, no checksum"
+abbrev pub headed : ℕ → List ℕ → List ℕ
+headed t b = pair t (pair 0 (pair (length b) b))
 
--- "Units 1 to 4 are the lines of the same number", and the function is that of the form
-pub record Right (o : Order) : Type 0 where
-  pub from : 1 ≤ o .line
-  pub upto : o .line ≤ 4
-  pub coded : Coded (o .function) (o .form)
+abbrev pub tcp : Wrapping
+tcp = record { checks = tcpChecks; numbers = 11 ∷ 17 ∷ 18 ∷ []; transaction = λ s. pairAt s 0; body = λ s. drop 6 s; wraps = headed }
 
--- a reply that is given at once is an exception, or unit 5's "0100 (version 1.0)"
-pub data GivenAtOnce : Reply → Type 0 where
-  exception : (u f code : ℕ) → GivenAtOnce (Exception u f code)
-  own : (f : ℕ) → GivenAtOnce (Value 5 f 0x0100)
+-- "A box has either the serial or the TCP form."
+abbrev pub wrappingOf : MessageForm → Wrapping
+wrappingOf Serial = serial
+wrappingOf Tcp = tcp
 
-pub record Lawful (W : Wrapping) : Type 0 where
-  pub orders : (b : List ℕ) (o : Order) → W .reads b ≡ reading.Accepted o → Right o
-  pub at-once : (b : List ℕ) (r : Reply) → W .reads b ≡ reading.AtOnce r → GivenAtOnce r
-  -- "11, 12, 13, 14": no other number is a silence
-  pub silent : (b : List ℕ) (n : ℕ) → W .reads b ≡ reading.Silent n → (11 ≤ n) × (n ≤ 14)
-  pub whole : (r : Reply) → W .body (W .writes r) ≡ bodyOf r
-  -- where nothing is written there is no body
-  pub empty : W .body [] ≡ []
-  pub fits : (r : Reply) → length (W .writes r) ≤ least-room
+-- what becomes of a message, and the numbers of its silences: the wrapping's own, and then the body's 13 and 14
+unfoldable pub reads : Wrapping → List ℕ → Reading
+reads W s = judged (W .checks s) Silent (bodyRead (W .body s))
+
+abbrev pub silencesOf : Wrapping → List ℕ
+silencesOf W = W .numbers ++ (13 ∷ 14 ∷ [])
+
+-- all of a reply's bytes, with the transaction of the message that it answers
+unfoldable pub writes : Wrapping → ℕ → Reply → List ℕ
+writes W t r = W .wraps t (bodyOf r)
+
+unfoldable pub replyWritten : Wrapping → ℕ → Reply → List ℕ → Written
+replyWritten W t r room = judged (roomChecks room) Refused (Count (length (writes W t r)))
+
+unfoldable pub replyRoom : Wrapping → ℕ → Reply → List ℕ → List ℕ
+replyRoom W t r room = judged (roomChecks room) (λ n. room) (placed (writes W t r) room)

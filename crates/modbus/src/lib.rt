@@ -3,6 +3,14 @@
 pub mod rows;
 pub mod shape;
 
+// How messages and replies are wrapped. A box has either form (02, Ask 4).
+pub enum MessageForm {
+    // The body, and its checksum behind it.
+    Serial,
+    // Transaction, protocol and length in front of the body.
+    Tcp,
+}
+
 // The type of a question on the line: 0, 1 and 2.
 pub enum QuestionType {
     ReadData,
@@ -67,7 +75,7 @@ pub enum Reply {
 
 // What becomes of a message.
 pub enum Reading {
-    // Refusal 11 to 14: no reply at all.
+    // Refusal 11 to 14, 17 or 18: no reply at all.
     Silent(u8),
     // An exception, or unit 5's reply.
     AtOnce(Reply),

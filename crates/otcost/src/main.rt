@@ -11,10 +11,12 @@
 //   18-21    the word of a frame, or of the frame that the samples are of
 //   22       the length of a message, up to 32
 //   23-24    how straight the frame's edges were, smallest and largest
+//   25       the form of the box: `t` TCP, else serial
 //   32-63    the message
 //   64-127   eight events of set-up, 8 bytes each: `t`, `h`, `b`, `m` or nothing; the line; smallest and
 //            largest; the word, or for `t` how often
 use gateway::Gateway;
+use gateway::MessageForm;
 use gateway::Told;
 use libc::STDIN_FILENO;
 use places::byte_at;
@@ -182,8 +184,16 @@ fn happened(before: Gateway, block: &[u8], at: u8, message: &[u8], room: &mut [u
     }
 }
 
+fn form_of(mark: u8) -> MessageForm {
+    if mark == b't' {
+        MessageForm::Tcp
+    } else {
+        MessageForm::Serial
+    }
+}
+
 fn set_up(block: &[u8], message: &[u8], room: &mut [u8]) -> Gateway {
-    let mut gateway = Gateway::fresh();
+    let mut gateway = Gateway::fresh(form_of(byte_at(block, 25)));
     let mut at: u8 = 64;
     while at < 128 {
         gateway = happened(gateway, block, at, message, room);

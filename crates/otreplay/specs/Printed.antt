@@ -5,7 +5,7 @@ use mathlib.Core.Bool.{Bool, true, false, cond}
 use mathlib.Core.List.{List, [], _∷_, _++_}
 use Rattle.text.specs.Text.{emptyText, puts, says}
 use Rattle.script.specs.declared.Event.{Event}
-use Rattle.script.specs.declared.Event.the-variants.{Skip, Wrong, Ticks, Thermostat, Boiler, Message, Room}
+use Rattle.script.specs.declared.Event.the-variants.{Skip, Wrong, Ticks, Thermostat, Boiler, Message, Room, Fresh}
 use Rattle.promises.specs.declared.Out.{Out}
 use Rattle.promises.specs.declared.Out.the-variants.{Silent, Sent}
 use Rattle.promises.specs.declared.Outs.{Outs}
@@ -37,6 +37,7 @@ wrongOf (Thermostat line frame) = false
 wrongOf (Boiler line frame) = false
 wrongOf (Message count) = false
 wrongOf (Room n) = false
+wrongOf (Fresh form) = false
 
 unfoldable pub wrongIf : Event → List (List ℕ)
 wrongIf e = cond (wrongOf e) (printed (45 ∷ 32 ∷ 108 ∷ 105 ∷ 110 ∷ 101 ∷ 10 ∷ []) ∷ []) []

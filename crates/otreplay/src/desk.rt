@@ -4,6 +4,7 @@ use crate::paper::happened;
 use crate::paper::ticked;
 use gateway::Asked;
 use gateway::Gateway;
+use gateway::MessageForm;
 use gateway::Moved;
 use gateway::Told;
 use script::Event;
@@ -19,9 +20,10 @@ pub(crate) struct Desk {
     pub paper: usize,
 }
 
+// A script begins with a serial box.
 pub(crate) fn fresh() -> Desk {
     Desk {
-        gateway: Gateway::fresh(),
+        gateway: Gateway::fresh(MessageForm::Serial),
         time: 0,
         lent: 256,
         used: 0,
@@ -92,7 +94,7 @@ fn ticks_in(e: Event) -> u32 {
     }
 }
 
-// A frame or a message; a message's bytes stand in front of `bytes`. Nothing moves at any other event.
+// A frame, a message or a new box; a message's bytes stand in front of `bytes`. Nothing moves at any other event.
 fn moved(gateway: Gateway, e: Event, bytes: &[u8], room: &mut [u8]) -> Moved {
     match e {
         Event::Thermostat(line, frame) => gateway.thermostat(line, frame),
@@ -101,10 +103,15 @@ fn moved(gateway: Gateway, e: Event, bytes: &[u8], room: &mut [u8]) -> Moved {
             let n = at_most(count, bytes.len());
             gateway.message(&bytes[..n], room)
         }
-        _ => Moved {
-            gateway: gateway,
-            told: Told::Quiet,
-        },
+        Event::Fresh(form) => untold(Gateway::fresh(form)),
+        _ => untold(gateway),
+    }
+}
+
+fn untold(gateway: Gateway) -> Moved {
+    Moved {
+        gateway: gateway,
+        told: Told::Quiet,
     }
 }
 
@@ -112,7 +119,10 @@ fn moved(gateway: Gateway, e: Event, bytes: &[u8], room: &mut [u8]) -> Moved {
 fn line_asked(asked: Asked) -> u8 {
     match asked {
         Asked::Nothing => 0,
-        Asked::Waits(o) => o.line,
+        Asked::Waits(a) => {
+            let o = a.order;
+            o.line
+        }
     }
 }
 
@@ -133,6 +143,14 @@ fn lent_after(e: Event, lent: usize) -> usize {
     }
 }
 
+// The time after an event that is no ticks: that of a new box begins.
+fn time_after(e: Event, time: u64) -> u64 {
+    match e {
+        Event::Fresh(_) => 0,
+        _ => time,
+    }
+}
+
 // An event that is no ticks.
 fn play(mut d: Desk, e: Event, bytes: &[u8], room: &mut [u8], page: &mut [u8]) -> Desk {
     let m = moved(d.gateway, e, bytes, room);
@@ -142,6 +160,7 @@ fn play(mut d: Desk, e: Event, bytes: &[u8], room: &mut [u8], page: &mut [u8]) -
     d.paper = happened(page, d.paper, d.time, line_of(e, asked), e, told, room);
     d.gateway = next;
     d.lent = lent_after(e, d.lent);
+    d.time = time_after(e, d.time);
     d
 }
 

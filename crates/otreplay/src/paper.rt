@@ -50,6 +50,7 @@ fn is_wrong(e: Event) -> bool
         Event::Boiler(_, _) => false,
         Event::Message(_) => false,
         Event::Room(_) => false,
+        Event::Fresh(_) => false,
     }
 }
 

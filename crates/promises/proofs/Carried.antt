@@ -22,7 +22,8 @@ use Rattle.modbus.specs.declared.Reading.{Reading}
 use Rattle.modbus.specs.declared.Reading.the-variants.{Silent, AtOnce, Accepted}
 use Rattle.modbus.specs.Outcomes.{lackingOf, busyOf}
 use Rattle.modbus.specs.Wire.{least-room}
-use Rattle.modbus.specs.Wrapping.{Wrapping}
+use Rattle.modbus.specs.Wrapping.{Wrapping, reads}
+use Rattle.promises.specs.declared.Asking.{Asking}
 use Rattle.promises.specs.declared.Asked.{Asked}
 use Rattle.promises.specs.declared.Asked.the-variants.{Nothing, Waits}
 use Rattle.promises.specs.declared.Out.{Out}
@@ -43,10 +44,10 @@ use Rattle.promises.specs.History.{next, outAt, nowhere, giftOf, boxAt, 
 use Rattle.promises.specs.Carried.{bareInput, bareTold, SameWords, SameGifts}
 use Rattle.promises.proofs.Numbers.{nth-of}
 
-abbrev tickGift : Does Ticked → Gift
+abbrev pub tickGift : Does Ticked → Gift
 tickGift d = record { told = boxNoteOf (d .result .told); wrote = d .wrote; out = outAt (d .result .outs) }
 
-abbrev moveGift : Does Moved → Gift
+abbrev pub moveGift : Does Moved → Gift
 moveGift d = record { told = boxNoteOf (d .result .told); wrote = d .wrote; out = nowhere }
 
 -- the box without the numbers of its lines' frames
@@ -73,7 +74,7 @@ put-bare ls k l =
 
 -- what the box makes of what a line says: the same for the order under way, and the same but for the numbers to tell and to send
 record Said-alike (s : Said) : Type 0 where
-  settles : (o : Order) → settledOf o (bareSaid s) ≡ settledOf o s
+  settles : (o : Asking) → settledOf o (bareSaid s) ≡ settledOf o s
   tells : boxNoteOf (plainOf (bareSaid s)) ≡ bareTold (boxNoteOf (plainOf s))
   goes : goneOf (outOf (bareSaid s)) ≡ bareNote (goneOf (outOf s))
 
@@ -103,7 +104,7 @@ OfTick d e = Alike (d .result .gateway) (e .result .gateway) (tickGift d) (tickG
 abbrev OfMove : Does Moved → Does Moved → Type 0
 OfMove d e = Alike (d .result .gateway) (e .result .gateway) (moveGift d) (moveGift e)
 
-either : {A : Type 0} (P : A → A → Type 0) (b : Bool) (x′ y′ x y : A) → P x′ x → P y′ y → P (cond b x′ y′) (cond b x y)
+pub either : {A : Type 0} (P : A → A → Type 0) (b : Bool) (x′ y′ x y : A) → P x′ x → P y′ y → P (cond b x′ y′) (cond b x y)
 either P true x′ y′ x y h g = h
 either P false x′ y′ x y h g = g
 
@@ -121,8 +122,8 @@ after-tick : (a : Asked) (s : Steps) → afterTick a (bareSteps s) ≡ afterTick
 unfolding afterTick saidOf
 after-tick Nothing s = refl
 after-tick (Waits o) s =
-    ap (settledOf o) (nth-of bareSaid (o .line) (s .one .said) (s .two .said) (s .three .said) (s .four .said))
-    ∙ alike (saidOf s (o .line)) .settles o
+    ap (settledOf o) (nth-of bareSaid (o .order .line) (s .one .said) (s .two .said) (s .three .said) (s .four .said))
+    ∙ alike (saidOf s (o .order .line)) .settles o
 
 outs-bare : (s : Steps) (k : ℕ) → outAt (outsOf (bareSteps s)) k ≡ bareNote (outAt (outsOf s) k)
 outs-bare s k =
@@ -136,7 +137,7 @@ module _ (W : Wrapping) (g : Gateway) where
   told-settled : (e : Settled) (t : Told) → boxNoteOf t ≡ bareTold (boxNoteOf t) → boxNoteOf (tellOf W e t) ≡ bareTold (boxNoteOf (tellOf W e t))
   unfolding tellOf
   told-settled Open t h = h
-  told-settled (Came r n) t h = refl
+  told-settled (Came u r n) t h = refl
 
   ticked : (s : Steps) (e : Settled) → OfTick (tickedOf W (bareBox g) (bareSteps s) e) (tickedOf W g s e)
   ticked s e = record { state = refl; told = told-settled e Quiet refl; wrote = refl; out = outs-bare s }
@@ -175,12 +176,12 @@ module _ (W : Wrapping) (g : Gateway) where
   after-boiler : (a : Asked) (l : ℕ) (s : Said) → afterBoiler a l (bareSaid s) ≡ afterBoiler a l s
   unfolding afterBoiler
   after-boiler Nothing l s = refl
-  after-boiler (Waits o) l s = ap (λ (x : Settled). cond (eqb (o .line) l) x Open) (alike s .settles o)
+  after-boiler (Waits o) l s = ap (λ (x : Settled). cond (eqb (o .order .line) l) x Open) (alike s .settles o)
 
   told-frame : (e : Settled) (s : Said) → boxNoteOf (tellOf W e (plainOf (bareSaid s))) ≡ bareTold (boxNoteOf (tellOf W e (plainOf s)))
   unfolding tellOf
   told-frame Open s = alike s .tells
-  told-frame (Came r n) s = refl
+  told-frame (Came u r n) s = refl
 
   moved : (l : ℕ) (s : Step) (e : Settled) → OfMove (movedOf W (bareBox g) l (bareStep s) e) (movedOf W g l s e)
   moved l s e = record { state = put l s (stillOf (g .asked) e); told = told-frame e (s .said); wrote = refl; out = λ k. refl }
@@ -199,41 +200,47 @@ module _ (W : Wrapping) (g : Gateway) where
 
   -- ---- a message
 
-  of-reply : (r : Reply) → OfMove (replied W (bareBox g) r) (replied W g r)
+  of-reply : (t : ℕ) (r : Reply) → OfMove (replied W (bareBox g) t r) (replied W g t r)
   unfolding replied
-  of-reply r = record { state = refl; told = refl; wrote = refl; out = λ k. refl }
+  of-reply t r = record { state = refl; told = refl; wrote = refl; out = λ k. refl }
 
-  of-taken : (o : Order) → OfMove (gives (takenOf (bareBox g) o) []) (gives (takenOf g o) [])
+  of-taken : (o : Asking) → OfMove (gives (takenOf (bareBox g) o) []) (gives (takenOf g o) [])
   unfolding takenOf
   of-taken o =
-      let s = doOf (lineOf (g .lines) (o .line)) (line.order (questionOf o)) in
+      let s = doOf (lineOf (g .lines) (o .order .line)) (line.order (questionOf (o .order))) in
       record {
-        state = ap (λ (x : Step). box (putOf (bareLines (g .lines)) (o .line) (x .line)) (Waits o)) (step-bare (o .line) (line.order (questionOf o)))
-            ∙ put (o .line) s (Waits o);
+        state = ap (λ (x : Step). box (putOf (bareLines (g .lines)) (o .order .line) (x .line)) (Waits o)) (step-bare (o .order .line) (line.order (questionOf (o .order))))
+            ∙ put (o .order .line) s (Waits o);
         told = refl;
         wrote = refl;
         out = λ k. refl;
       }
 
-  of-asked : (a : Asked) (o : Order) → OfMove (askedOf W (bareBox g) a o) (askedOf W g a o)
+  of-asked : (a : Asked) (o : Asking) → OfMove (askedOf W (bareBox g) a o) (askedOf W g a o)
   of-asked Nothing o = of-taken o
-  of-asked (Waits p) o = of-reply (busyOf o)
+  of-asked (Waits p) o = of-reply (o .transaction) (busyOf (o .order))
 
   lack-bare : (o : Order) → lackOf (bareLines (g .lines)) o ≡ lackOf (g .lines) o
   unfolding lackOf
   lack-bare o = ap (λ (x : Line). lacksOf (x .status) (questionOf o)) (line-bare (g .lines) (o .line))
 
-  of-read : (r : Reading) → OfMove (readOf W (bareBox g) r) (readOf W g r)
-  unfolding readOf asksOf
-  of-read (Silent n) = record { state = refl; told = refl; wrote = refl; out = λ k. refl }
-  of-read (AtOnce r) = of-reply r
-  of-read (Accepted o) =
-      subst⁻¹ (λ (b : Bool). OfMove (cond b (replied W (bareBox g) (lackingOf o)) (askedOf W (bareBox g) (g .asked) o)) (asksOf W g o)) (lack-bare o)
-      (either OfMove (lackOf (g .lines) o) _ _ _ _ (of-reply (lackingOf o)) (of-asked (g .asked) o))
+  of-asks : (a : Asking) → OfMove (asksOf W (bareBox g) a) (asksOf W g a)
+  unfolding asksOf
+  of-asks a =
+      let t = a .transaction in
+      let o = a .order in
+      subst⁻¹ (λ (b : Bool). OfMove (cond b (replied W (bareBox g) t (lackingOf o)) (askedOf W (bareBox g) (g .asked) a)) (asksOf W g a)) (lack-bare o)
+      (either OfMove (lackOf (g .lines) o) _ _ _ _ (of-reply t (lackingOf o)) (of-asked (g .asked) a))
+
+  of-read : (t : ℕ) (r : Reading) → OfMove (readOf W (bareBox g) t r) (readOf W g t r)
+  unfolding readOf
+  of-read t (Silent n) = record { state = refl; told = refl; wrote = refl; out = λ k. refl }
+  of-read t (AtOnce r) = of-reply t r
+  of-read t (Accepted o) = of-asks (record { order = o; transaction = t })
 
   of-message : (b : List ℕ) (n : ℕ) → OfMove (messageOf W (bareBox g) b n) (messageOf W g b n)
   unfolding messageOf
-  of-message b n = either OfMove (leb least-room n) _ _ _ _ (of-read (W .reads b)) (record { state = refl; told = refl; wrote = refl; out = λ k. refl })
+  of-message b n = either OfMove (leb least-room n) _ _ _ _ (of-read (W .transaction b) (reads W b)) (record { state = refl; told = refl; wrote = refl; out = λ k. refl })
 
   -- every input, at every box
   does : (x : Input) → Alike (next W (bareBox g) (bareInput x)) (next W g x) (giftOf W (bareBox g) (bareInput x)) (giftOf W g x)

@@ -21,7 +21,8 @@ use Rattle.turns.proofs.Meets.{boiler-meets}
 use Rattle.turns.proofs.Good.{good-only}
 use Rattle.turns.proofs.Carried.{orders-unmeasured}
 use Rattle.turns.proofs.Relay.{relays}
-use Rattle.modbus.specs.Wrapping.{Wrapping, Lawful}
+use Rattle.modbus.specs.Wrapping.{Wrapping}
+use Rattle.modbus.specs.Lawful.{Lawful}
 use Rattle.promises.specs.Notes.{BoxNote, held, passed}
 use Rattle.promises.specs.Four.{lineOf}
 use Rattle.promises.specs.Settle.{questionOf}
@@ -72,7 +73,7 @@ module _ {W : Wrapping} (law : Lawful W) (h : Inputs) {k : ℕ} (four : Four k) 
     holds = λ n f c. record { frame = thermostat-of (see n) f (c .frame); is-held = says-of n line.held (c .is-held) };
     takes = λ n t.
         let b = order-on law h four n (t .w) (t .asked) in
-        record { order = b .o; asked = b .accepted .asked; unit = b .line; taken = b .accepted .taken };
+        record { asking = b .o; asked = b .accepted .asked; unit = b .line; taken = b .accepted .taken };
     boils = λ n b e. boiler-of (see n) b e;
     goes = λ x n f e. projects law h four .sends n x f e;
     passes = λ n b e. record { frame = boiler-of (see n) b (of-note n (line.passed b) e); is-passed = says-of n (line.passed b) e };
@@ -102,10 +103,10 @@ module _ {W : Wrapping} (law : Lawful W) (h : Inputs) {k : ℕ} (four : Four k) 
 
   taken-down : (n : ℕ) → TakenOn W k (h n) (given W h n .told) → Took (E law h k) (S law h k) n
   taken-down n t =
-      let a = taken-on law h n (t .order) (record { asked = t .asked; taken = t .taken }) .there in
+      let a = taken-on law h n (t .asking) (record { asked = t .asked; taken = t .taken }) .there in
       record {
-        w = questionOf (t .order);
-        asked = subst (λ (l : ℕ). E law h l n ≡ line.order (questionOf (t .order))) (t .unit) (a .asked);
+        w = questionOf (t .asking .order);
+        asked = subst (λ (l : ℕ). E law h l n ≡ line.order (questionOf (t .asking .order))) (t .unit) (a .asked);
         taken = subst (λ (l : ℕ). S law h l n ≡ line.accepted) (t .unit) (a .taken);
       }
 

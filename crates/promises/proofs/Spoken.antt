@@ -14,7 +14,6 @@ use Rattle.word.specs.Frame.{typeOf, idOf, valueOf, matchesOf}
 use Rattle.word.specs.Fields.{BuiltFrom}
 use Rattle.word.proofs.Fields.{fields}
 use Rattle.word.proofs.Match.{match-type}
-use Rattle.crc.specs.Crc.{sealed}
 use Rattle.turns.specs.declared.Talker.the-variants.{Modbus}
 use Rattle.turns.specs.Events.{Notes, sent}
 use Rattle.turns.specs.Exchange.{Exchanges, Shows, LastShown, Own, Lacks}
@@ -31,8 +30,9 @@ use Rattle.modbus.specs.Numbers.{readingVerdict}
 use Rattle.modbus.specs.declared.Outcome.the-variants.{Answer, NoAnswer}
 use Rattle.modbus.specs.Outcomes.{answerOf}
 use Rattle.modbus.specs.Replied.{ReplyBodies, repliesTo}
-use Rattle.modbus.specs.Wire.{bodyOf, bytesOf}
-use Rattle.modbus.specs.Wrapping.{serial}
+use Rattle.modbus.specs.Wire.{bodyOf}
+use Rattle.modbus.specs.Wrapping.{Wrapping, reads, writes}
+use Rattle.modbus.specs.Lawful.{Lawful}
 use Rattle.modbus.specs.Table.{
   TableRow,
   row-03,
@@ -58,8 +58,8 @@ use Rattle.modbus.proofs.Verdicts.{reading, typed, reading-back}
 use Rattle.modbus.proofs.Questions.{word-says}
 use Rattle.modbus.proofs.Sent.{as-sent, order-sent}
 use Rattle.modbus.proofs.Answered.{replies, as-replied}
-use Rattle.modbus.proofs.Wrapping.{serial-lawful}
-use Rattle.promises.specs.Inputs.{Inputs, Gifts, Four, Boils, Brings, past}
+use Rattle.promises.specs.declared.Asking.{Asking}
+use Rattle.promises.specs.Inputs.{Input, Inputs, Gifts, Four, Boils, Brings, past}
 use Rattle.promises.specs.History.{given}
 use Rattle.promises.specs.Demand3.{AsksFor, RepliesAtOnce, Gives, askedOn, outOn, boxView}
 use Rattle.promises.specs.Notes.{outcome}
@@ -129,7 +129,10 @@ id-of-built t i v w ht hi hv b =
     ∙ fields (record { parity = b .parity; type = t; spare = 0; id = i; value = v })
     (record { one-bit = b .one-bit; three-bits = ht; four-bits = lit< tt; a-byte = hi; two-bytes = hv }) .id
 
-module _ (r : Request) (fits : Fits r) (o : Order) (e : readingVerdict (Accepted o) ≡ askedBy r) where
+module _ (r : Request) (fits : Fits r) (a : Asking) (e : readingVerdict (Accepted (a .order)) ≡ askedBy r) where
+  abbrev o : Order
+  o = a .order
+
   numbers : Asks o (r .row) (r .unit) (r .offset) (r .value)
   numbers = asks-in (r .row) (r .unit) (r .offset) (r .value) o e
 
@@ -147,34 +150,34 @@ module _ (r : Request) (fits : Fits r) (o : Order) (e : readingVerdict (Accepted
       id-of-built (typeIn (r .row)) (idIn r) (valueIn (r .row) (r .value)) (wordOf (o .question)) (type-small (r .row)) (omega arith) small built
 
   -- a status question is one by the table
-  exchanges : AsksStatus r → Exchanges (askedOn o)
-  exchanges a = record { alone = numbers .alone ∙ a .alone; named = subst (λ (i : ℕ). (i ≡ 0) ⊎ (i ≡ 70)) (sym id-is) (a .named) }
+  exchanges : AsksStatus r → Exchanges (askedOn a)
+  exchanges x = record { alone = numbers .alone ∙ x .alone; named = subst (λ (i : ℕ). (i ≡ 0) ⊎ (i ≡ 70)) (sym id-is) (x .named) }
 
-  asks-status : Exchanges (askedOn o) → AsksStatus r
+  asks-status : Exchanges (askedOn a) → AsksStatus r
   asks-status x = record { alone = sym (numbers .alone) ∙ x .alone; named = subst (λ (i : ℕ). (i ≡ 0) ⊎ (i ≡ 70)) id-is (x .named) }
 
   -- what is said of the order's line and id is said of the request's
-  over : (s : Gifts) (P : Notes → ℕ → Type 0) → P (outOn s o) (idOf (wordOf (o .question))) → P (outsOn s (r .unit)) (idIn r)
-  over s P x = subst (λ (k : ℕ). P (outsOn s k) (idIn r)) (numbers .line) (subst (λ (i : ℕ). P (outOn s o) i) id-is x)
+  over : (s : Gifts) (P : Notes → ℕ → Type 0) → P (outOn s a) (idOf (wordOf (o .question))) → P (outsOn s (r .unit)) (idIn r)
+  over s P x = subst (λ (k : ℕ). P (outsOn s k) (idIn r)) (numbers .line) (subst (λ (i : ℕ). P (outOn s a) i) id-is x)
 
-  back : (s : Gifts) (P : Notes → ℕ → Type 0) → P (outsOn s (r .unit)) (idIn r) → P (outOn s o) (idOf (wordOf (o .question)))
-  back s P x = subst (λ (i : ℕ). P (outOn s o) i) (sym id-is) (subst (λ (k : ℕ). P (outsOn s k) (idIn r)) (sym (numbers .line)) x)
+  back : (s : Gifts) (P : Notes → ℕ → Type 0) → P (outsOn s (r .unit)) (idIn r) → P (outOn s a) (idOf (wordOf (o .question)))
+  back s P x = subst (λ (i : ℕ). P (outOn s a) i) (sym id-is) (subst (λ (k : ℕ). P (outsOn s k) (idIn r)) (sym (numbers .line)) x)
 
-  word-of : (s : Gifts) (j : ℕ) (f : Frame) → Own (outOn s o) j (askedOn o) f → RequestWord s j r (f .word)
+  word-of : (s : Gifts) (j : ℕ) (f : Frame) → Own (outOn s a) j (askedOn a) f → RequestWord s j r (f .word)
   word-of s j f (exchange.plain off is) =
-      plain (λ a. off (exchanges a))
+      plain (λ x. off (exchanges x))
       (subst (λ (w : ℕ). BuiltFrom (typeIn (r .row)) (idIn r) (valueIn (r .row) (r .value)) w) (sym is) built)
   word-of s j f (exchange.status x g l b) =
       status (asks-status x) g (over s (λ (t : Notes) (i : ℕ). LastShown t i j g) l)
       (subst (λ (i : ℕ). BuiltFrom 0 i (valueOf (g .word) / 256 * 256) (f .word)) id-is b)
 
-  no-status : (s : Gifts) (k : ℕ) → Lacks (outOn s o) k (askedOn o) → NoStatus s k r
+  no-status : (s : Gifts) (k : ℕ) → Lacks (outOn s a) k (askedOn a) → NoStatus s k r
   no-status s k l = record {
     asks = asks-status (l .exchange);
     never = λ m f lt sh. l .never m f lt (back s (λ (t : Notes) (i : ℕ). Shows t i m f) sh);
   }
 
-  lacks : (s : Gifts) (k : ℕ) → NoStatus s k r → Lacks (outOn s o) k (askedOn o)
+  lacks : (s : Gifts) (k : ℕ) → NoStatus s k r → Lacks (outOn s a) k (askedOn a)
   lacks s k n = record {
     exchange = exchanges (n .asks);
     never = λ m f lt sh. n .never m f lt (over s (λ (t : Notes) (i : ℕ). Shows t i m f) sh);
@@ -198,16 +201,16 @@ order-in row-41-0000 u p v = (_, refl)
 order-in row-41-0010 u p v = (_, refl)
 order-in row-41-0020 u p v = (_, refl)
 
-record Asked (r : Request) : Type 0 where
+record Asked (W : Wrapping) (t : ℕ) (r : Request) : Type 0 where
   o : Order
-  reads : serial .reads (sealed (bodyOfRequest r)) ≡ Accepted o
+  is-order : reads W (W .wraps t (bodyOfRequest r)) ≡ Accepted o
   verdict : readingVerdict (Accepted o) ≡ askedBy r
 
-asked-by : (r : Request) → Fits r → Asked r
-asked-by r fits =
+asked-by : {W : Wrapping} → Lawful W → (t : ℕ) (r : Request) → Fits r → Asked W t r
+asked-by {W} law t r fits =
     let x = order-in (r .row) (r .unit) (r .offset) (r .value) in
-    let reads = sym (reading-back (serial .reads (sealed (bodyOfRequest r)))) ∙ ap reading (as-sent r fits) ∙ x .1 in
-    record { o = x .0; reads = reads; verdict = sym (ap readingVerdict reads) ∙ as-sent r fits }
+    let is-order = sym (reading-back (reads W (W .wraps t (bodyOfRequest r)))) ∙ ap reading (as-sent law t r fits) ∙ x .1 in
+    record { o = x .0; is-order = is-order; verdict = sym (ap readingVerdict is-order) ∙ as-sent law t r fits }
 
 -- what is replied to a boiler frame of type 4 to 7
 by-type : (o : Order) (v t : ℕ) → 4 ≤ t → t < 8 → replyTo (replies o v) t ≡ bodyOf (answerOf o (Answer t v))
@@ -222,28 +225,33 @@ by-type o v (suc (suc (suc (suc (suc (suc (suc zero))))))) lo hi = refl
 by-type o v (suc (suc (suc (suc (suc (suc (suc (suc t)))))))) lo hi = absurd (omega arith)
 
 -- some order for line k
-abbrev on : ℕ → Order
-on k = record { line = k; question = record { t = ReadData; id = 0; value = 0; alone = false }; function = 0; offset = 0; form = form.Value }
+abbrev on : ℕ → Asking
+on k = record {
+  order = record { line = k; question = record { t = ReadData; id = 0; value = 0; alone = false }; function = 0; offset = 0; form = form.Value };
+  transaction = 0;
+}
 
-module _ (h : Inputs) (bytewise : Bytewise h) where
+module _ {W : Wrapping} (law : Lawful W) (h : Inputs) (bytewise : Bytewise h) where
   abbrev s : Gifts
-  s = given serial h
+  s = given W h
 
-  abbrev H : View Order
-  H = boxView serial h s
+  abbrev H : View Asking
+  H = boxView W h s
 
   -- an order under way is a request that waits, and the other way round
   record Under (n : ℕ) (u : UnderWay H n) : Type 0 where
-    waits : RequestWaits h s n
-    verdict : readingVerdict (Accepted (u .w)) ≡ askedBy (waits .r)
+    waits : RequestWaits W h s n
+    own : waits .t ≡ u .w .transaction
+    verdict : readingVerdict (Accepted (u .w .order)) ≡ askedBy (waits .r)
 
   under : (n : ℕ) (u : UnderWay H n) → Under n u
   under n u =
       let a = u .accepted .asked in
-      let sent = order-sent (a .bytes) (u .w) (bytewise (u .i) (a .bytes) (a .brings .room) (a .brings .is)) (a .reads) in
+      let sent = order-sent law (a .bytes) (u .w .order) (bytewise (u .i) (a .bytes) (a .brings .room) (a .brings .is)) (a .order) in
       record {
         waits = record {
           r = sent .q;
+          t = W .transaction (a .bytes);
           i = u .i;
           before = u .before;
           fits = sent .fits;
@@ -251,23 +259,30 @@ module _ (h : Inputs) (bytewise : Bytewise h) where
           taken = u .accepted .taken;
           waiting = λ m bytes wait lo hi t. u .waiting m lo hi (bytes, wait, t);
         };
+        own = a .own;
         verdict = sent .question;
       }
 
-  way : (n : ℕ) → RequestWaits h s n → UnderWay H n
+  -- the order that a request asks, with the transaction that is read off its message
+  abbrev asking : (t : ℕ) (r : Request) → Fits r → Asking
+  asking t r fits = record { order = asked-by law t r fits .o; transaction = W .transaction (W .wraps t (bodyOfRequest r)) }
+
+  asks : (t : ℕ) (r : Request) (fits : Fits r) {x : Input} → Brings (W .wraps t (bodyOfRequest r)) x → AsksFor W (asking t r fits) x
+  asks t r fits came = record { bytes = W .wraps t (bodyOfRequest r); brings = came; order = asked-by law t r fits .is-order; own = refl }
+
+  way : (n : ℕ) → RequestWaits W h s n → UnderWay H n
   way n w =
-      let a = asked-by (w .r) (w .fits) in
       record {
         i = w .i;
-        w = a .o;
+        w = asking (w .t) (w .r) (w .fits);
         before = w .before;
-        accepted = record { asked = record { bytes = sealed (bodyOfRequest (w .r)); brings = w .came; reads = a .reads }; taken = w .taken };
+        accepted = record { asked = asks (w .t) (w .r) (w .fits) (w .came); taken = w .taken };
         waiting = λ m lo hi e. w .waiting m (e .0) (e .1) lo hi (e .2);
       }
 
-  asked : (j k : ℕ) (f : Frame) → Four k → s j .out k ≡ sent Modbus f → Speaks h s j k f
+  asked : (j k : ℕ) (f : Frame) → Four k → s j .out k ≡ sent Modbus f → Speaks W h s j k f
   asked j k f mine out =
-      let a = demand3 serial-lawful h .asked (on k) j f (record { unit = mine; out = out }) in
+      let a = demand3 law h .asked (on k) j f (record { unit = mine; out = out }) in
       let u = under j (a .order) in
       let r = u .waits .r in
       record {
@@ -276,21 +291,28 @@ module _ (h : Inputs) (bytewise : Bytewise h) where
         word = word-of r (u .waits .fits) (a .order .w) (u .verdict) s j f (a .own);
       }
 
-  module _ (k : ℕ) (r : Request) (fits : Fits r) (x : Asked r) where
-    -- its replies at once, byte by byte
-    bytes : (part : ReplyBodies → List ℕ) → RepliesAtOnce (s k) (sealed (part (replies (x .o) 0))) → RepliesAtOnce (s k) (sealed (part (repliesTo r 0)))
-    bytes part rep = subst (λ (b : ReplyBodies). RepliesAtOnce (s k) (sealed (part b))) (as-replied r (x .o) 0 (x .verdict)) rep
+  module _ (k t : ℕ) (r : Request) (fits : Fits r) where
+    abbrev x : Asking
+    x = asking t r fits
 
-    told : OrderTold H k (x .o) → RequestTold h s k r
-    unfolding bytesOf
-    told (promise.taken t has none) = taken t (λ n. has (lacks r fits (x .o) (x .verdict) s k n)) (λ w. none (way k w))
-    told (promise.lacking rep l) =
-        lacking (bytes (λ (b : ReplyBodies). b .lacking) rep) (no-status r fits (x .o) (x .verdict) s k l)
-    told (promise.busy rep has u) =
-        busy (bytes (λ (b : ReplyBodies). b .busy) rep) (λ n. has (lacks r fits (x .o) (x .verdict) s k n)) (under k u .waits)
+    verdict : readingVerdict (Accepted (x .order)) ≡ askedBy r
+    verdict = asked-by law t r fits .verdict
+
+    -- its replies at once, byte by byte
+    bytes : (part : ReplyBodies → List ℕ) → RepliesAtOnce (s k) (W .wraps (x .transaction) (part (replies (x .order) 0))) →
+        RepliesAtOnce (s k) (W .wraps t (part (repliesTo r 0)))
+    bytes part rep =
+        subst (λ (b : List ℕ). RepliesAtOnce (s k) b) (law .echoes t (bodyOfRequest r) (part (repliesTo r 0)))
+        (subst (λ (b : ReplyBodies). RepliesAtOnce (s k) (W .wraps (x .transaction) (part b))) (as-replied r (x .order) 0 verdict) rep)
+
+    told : OrderTold H k x → RequestTold W h s k t r
+    unfolding writes
+    told (promise.taken e has none) = taken e (λ n. has (lacks r fits x verdict s k n)) (λ w. none (way k w))
+    told (promise.lacking rep l) = lacking (bytes (λ (b : ReplyBodies). b .lacking) rep) (no-status r fits x verdict s k l)
+    told (promise.busy rep has u) = busy (bytes (λ (b : ReplyBodies). b .busy) rep) (λ n. has (lacks r fits x verdict s k n)) (under k u .waits)
 
   -- an outcome's reply, byte by byte
-  module _ (k i : ℕ) (o : Order) (lt : i < k) (acc : Accepts H i o) (v : Served 1950 H i o k) where
+  module _ (k i : ℕ) (o : Asking) (lt : i < k) (acc : Accepts H i o) (v : Served 1950 H i o k) where
     abbrev now : UnderWay H k
     now = record { i = i; w = o; before = lt; accepted = acc; waiting = v .only }
 
@@ -298,35 +320,37 @@ module _ (h : Inputs) (bytewise : Bytewise h) where
     u = under k now
 
     written : (b : Frame) → matchesOf (v .q .word) (b .word) ≡ true →
-        bodyOf (answerOf o (Answer (typeOf (b .word)) (valueOf (b .word)))) ≡ replyTo (repliesTo (u .waits .r) (valueOf (b .word))) (typeOf (b .word))
+        bodyOf (answerOf (o .order) (Answer (typeOf (b .word)) (valueOf (b .word)))) ≡ replyTo (repliesTo (u .waits .r) (valueOf (b .word))) (typeOf (b .word))
     unfolding typeOf
     written b m =
-        sym (by-type o (valueOf (b .word)) (typeOf (b .word)) (match-type (v .q .word) (b .word) m) (omega arith))
-        ∙ ap (λ (x : ReplyBodies). replyTo x (typeOf (b .word))) (as-replied (u .waits .r) o (valueOf (b .word)) (u .verdict))
+        sym (by-type (o .order) (valueOf (b .word)) (typeOf (b .word)) (match-type (v .q .word) (b .word) m) (omega arith))
+        ∙ ap (λ (x : ReplyBodies). replyTo x (typeOf (b .word))) (as-replied (u .waits .r) (o .order) (valueOf (b .word)) (u .verdict))
 
-    ends : (n : ℕ) → n ≡ past h i (suc k) → Ending H o (v .j) (v .q) k n → Ended h s k
-    unfolding bytesOf u under
+    -- the reply y to the request that waits, with its own transaction
+    given-to : (n : ℕ) {y z : List ℕ} → n ≡ past h i (suc k) → y ≡ z → Gives (s k) (W .wraps (o .transaction) y) n →
+        Gives (s k) (W .wraps (u .waits .t) z) (past h i (suc k))
+    given-to n {y} {z} is same g =
+        subst (λ (w : ℕ). Gives (s k) (W .wraps (u .waits .t) z) w) is
+        (subst (λ (t : ℕ). Gives (s k) (W .wraps t z) n) (sym (u .own)) (subst (λ (l : List ℕ). Gives (s k) (W .wraps (o .transaction) l) n) same g))
+
+    ends : (n : ℕ) → n ≡ past h i (suc k) → Ending H o (v .j) (v .q) k n → Ended W h s k
+    unfolding writes u under
     ends n is (promise.answered b an g) =
         answered (u .waits) b
         (subst (λ (l : ℕ). Boils l b (h k)) (numbers (u .waits .r) (u .waits .fits) o (u .verdict) .line) (an .frame))
-        (subst (λ (w : ℕ). Gives (s k) (sealed (replyTo (repliesTo (u .waits .r) (valueOf (b .word))) (typeOf (b .word)))) w) is
-        (subst (λ (l : List ℕ). Gives (s k) (sealed l) n) (written b (an .matches)) g))
+        (given-to n is (written b (an .matches)) g)
     ends n is (promise.silent t e g) =
         silent (u .waits) t
-        (subst (λ (w : ℕ). Gives (s k) (sealed (repliesTo (u .waits .r) 0 .none)) w) is
-        (subst (λ (x : ReplyBodies). Gives (s k) (sealed (x .none)) n) (as-replied (u .waits .r) o 0 (u .verdict)) g))
+        (given-to n is (ap (λ (x : ReplyBodies). x .none) (as-replied (u .waits .r) (o .order) 0 (u .verdict))) g)
 
-  ended : (k bytes wait : ℕ) → s k .told ≡ outcome bytes wait → Ended h s k
+  ended : (k bytes wait : ℕ) → s k .told ≡ outcome bytes wait → Ended W h s k
   ended k bytes wait e =
-      let d = demand3 serial-lawful h .earned k (bytes, wait, e) in
+      let d = demand3 law h .earned k (bytes, wait, e) in
       ends k (d .0) (d .1) (d .2) (d .3) (d .4) (past h (d .0) (suc k)) refl (d .4 .ending)
 
-  pub spoken : Spoken h s
+  pub spoken : Spoken W h s
   spoken = record {
     asked = asked;
-    told = λ k r fits came.
-        let x = asked-by r fits in
-        told k r fits x
-        (demand3 serial-lawful h .ready k (x .o) (record { bytes = sealed (bodyOfRequest r); brings = came; reads = x .reads }));
+    told = λ k t r fits came. told k t r fits (demand3 law h .ready k (asking t r fits) (asks t r fits came));
     ended = ended;
   }

@@ -8,7 +8,8 @@ use native.Mathlib.Omega.{arith}
 use borrow.Author.Tests.{lt-ltb, le-ltb}
 use Rattle.turns.specs.Events.{nothing}
 use Rattle.turns.proofs.Clock.{last-or}
-use Rattle.modbus.specs.Wrapping.{Wrapping, Lawful}
+use Rattle.modbus.specs.Wrapping.{Wrapping}
+use Rattle.modbus.specs.Lawful.{Lawful}
 use Rattle.promises.specs.Box.{Gateway}
 use Rattle.promises.specs.Inputs.{Inputs}
 use Rattle.promises.specs.History.{next, giftOf, boxAt, given}

@@ -6,8 +6,8 @@ use mathlib.Core.Path.{_≡_}
 use Rattle.word.specs.declared.Frame.{Frame}
 use Rattle.turns.specs.Events.{sent}
 use Rattle.turns.specs.Scene.{Scene}
-use Rattle.modbus.specs.declared.Order.{Order}
 use Rattle.modbus.specs.Wrapping.{Wrapping}
+use Rattle.promises.specs.declared.Asking.{Asking}
 use Rattle.promises.specs.Notes.{BoxNote, held, passed, dropped, accepted, refused}
 use Rattle.promises.specs.Inputs.{Input, Inputs, Gifts, thermostat, Ticks, Boils, clock}
 use Rattle.promises.specs.Demand3.{AsksFor}
@@ -19,9 +19,9 @@ pub record HeldOn (k : ℕ) (f : Frame) (x : Input) (t : BoxNote) : Type 0 where
   pub is-held : t ≡ held
 
 pub record TakenOn (W : Wrapping) (k : ℕ) (x : Input) (t : BoxNote) : Type 0 where
-  pub order : Order
-  pub asked : AsksFor W order x
-  pub unit : order .line ≡ k
+  pub asking : Asking
+  pub asked : AsksFor W asking x
+  pub unit : asking .order .line ≡ k
   pub taken : t ≡ accepted
 
 -- it is a boiler frame on line k, and it is passed on, or dropped; it is a frame on line k, and it is refused

@@ -1,5 +1,5 @@
--- What the box puts on its lines and replies to a request, in the numbers of 01's table alone (modbus, Table and Replied), in the serial wrapping: bytes
--- in, words and bytes out, where the inputs h come and s is given to each. No order, no question and no reading of a message is named here.
+-- What the box puts on its lines and replies to a request, in the numbers of 01's table alone (modbus, Table and Replied), in a wrapping W: bytes in, words
+-- and bytes out, where the inputs h come and s is given to each. No order, no question and no reading of a message is named here.
 -- Nothing here knows how the box works. Assumes nothing: these are definitions.
 use Prim.Native.Nat.{ℕ, suc, _*_, _/_, _%_, _<_}
 use mathlib.Core.Path.{_≡_}
@@ -10,7 +10,6 @@ use lib.Dec.{eqb}
 use Rattle.word.specs.declared.Frame.{Frame}
 use Rattle.word.specs.Frame.{typeOf, valueOf}
 use Rattle.word.specs.Fields.{BuiltFrom}
-use Rattle.crc.specs.Crc.{sealed}
 use Rattle.turns.specs.declared.Talker.the-variants.{Modbus}
 use Rattle.turns.specs.Events.{Notes, sent}
 use Rattle.turns.specs.Exchange.{Shows, LastShown}
@@ -35,6 +34,7 @@ use Rattle.modbus.specs.Table.{
 }
 use Rattle.modbus.specs.Replied.{ReplyBodies, repliesTo}
 use Rattle.modbus.specs.Becomes.{Bytes}
+use Rattle.modbus.specs.Wrapping.{Wrapping}
 use Rattle.promises.specs.Notes.{accepted, outcome}
 use Rattle.promises.specs.Inputs.{message, Inputs, Gifts, Four, Ticks, Boils, Brings, past}
 use Rattle.promises.specs.Demand3.{RepliesAtOnce, Gives}
@@ -109,46 +109,48 @@ pub record NoStatus (s : Gifts) (k : ℕ) (r : Request) : Type 0 where
   pub asks : AsksStatus r
   pub never : (m : ℕ) (f : Frame) → m < k → Shows (outsOn s (r .unit)) (idIn r) m f → ⊥
 
--- the request r came as input i, was accepted, and has no outcome before input n
-pub record RequestWaits (h : Inputs) (s : Gifts) (n : ℕ) : Type 0 where
+-- the request r came as input i with the transaction t, was accepted, and has no outcome before input n
+pub record RequestWaits (W : Wrapping) (h : Inputs) (s : Gifts) (n : ℕ) : Type 0 where
   pub r : Request
+  pub t : ℕ
   pub i : ℕ
   pub before : i < n
   pub fits : Fits r
-  pub came : Brings (sealed (bodyOfRequest r)) (h i)
+  pub came : Brings (W .wraps t (bodyOfRequest r)) (h i)
   pub taken : s i .told ≡ accepted
   pub waiting : (m bytes wait : ℕ) → i < m → m < n → s m .told ≡ outcome bytes wait → ⊥
 
--- what the message of r is told as input k: it is accepted; or "exception 04 at once where no such frame went out, .. before 06"; or 06
-pub data RequestTold (h : Inputs) (s : Gifts) (k : ℕ) (r : Request) : Type 0 where
-  taken : s k .told ≡ accepted → (NoStatus s k r → ⊥) → (RequestWaits h s k → ⊥) → RequestTold h s k r
-  lacking : RepliesAtOnce (s k) (sealed (repliesTo r 0 .lacking)) → NoStatus s k r → RequestTold h s k r
-  busy : RepliesAtOnce (s k) (sealed (repliesTo r 0 .busy)) → (NoStatus s k r → ⊥) → RequestWaits h s k → RequestTold h s k r
+-- what the message of r, with the transaction t, is told as input k: it is accepted; or "exception 04 at once where no such frame went out, .. before
+-- 06"; or 06. The transaction comes back
+pub data RequestTold (W : Wrapping) (h : Inputs) (s : Gifts) (k t : ℕ) (r : Request) : Type 0 where
+  taken : s k .told ≡ accepted → (NoStatus s k r → ⊥) → (RequestWaits W h s k → ⊥) → RequestTold W h s k t r
+  lacking : RepliesAtOnce (s k) (W .wraps t (repliesTo r 0 .lacking)) → NoStatus s k r → RequestTold W h s k t r
+  busy : RepliesAtOnce (s k) (W .wraps t (repliesTo r 0 .busy)) → (NoStatus s k r → ⊥) → RequestWaits W h s k → RequestTold W h s k t r
 
 -- the reply to a boiler frame of type t, 4 to 7, of those that the table prints
 abbrev pub replyTo : ReplyBodies → ℕ → List ℕ
 replyTo b t = cond (eqb t 4) (b .four) (cond (eqb t 5) (b .five) (cond (eqb t 6) (b .six) (b .seven)))
 
--- the outcome that is told to input k is that of the request that waits: the table's reply to a frame of its boiler's, or to no answer, with its
--- checksum; and the ticks since it came
-pub data Ended (h : Inputs) (s : Gifts) (k : ℕ) : Type 0 where
-  answered : (w : RequestWaits h s k) (b : Frame) → Boils (w .r .unit) b (h k) →
-      Gives (s k) (sealed (replyTo (repliesTo (w .r) (valueOf (b .word))) (typeOf (b .word)))) (past h (w .i) (suc k)) → Ended h s k
-  silent : (w : RequestWaits h s k) → Ticks (h k) → Gives (s k) (sealed (repliesTo (w .r) 0 .none)) (past h (w .i) (suc k)) → Ended h s k
+-- the outcome that is told to input k is that of the request that waits: the table's reply to a frame of its boiler's, or to no answer, in the wrapping and
+-- with that request's own transaction; and the ticks since it came
+pub data Ended (W : Wrapping) (h : Inputs) (s : Gifts) (k : ℕ) : Type 0 where
+  answered : (w : RequestWaits W h s k) (b : Frame) → Boils (w .r .unit) b (h k) →
+      Gives (s k) (W .wraps (w .t) (replyTo (repliesTo (w .r) (valueOf (b .word))) (typeOf (b .word)))) (past h (w .i) (suc k)) → Ended W h s k
+  silent : (w : RequestWaits W h s k) → Ticks (h k) → Gives (s k) (W .wraps (w .t) (repliesTo (w .r) 0 .none)) (past h (w .i) (suc k)) → Ended W h s k
 
 -- each message is of bytes
 abbrev pub Bytewise : Inputs → Type 0
 Bytewise h = (n : ℕ) (b : List ℕ) (room : ℕ) → h n ≡ message b room → Bytes b
 
 -- what goes out for Modbus on line k at input j
-pub record Speaks (h : Inputs) (s : Gifts) (j k : ℕ) (f : Frame) : Type 0 where
-  pub request : RequestWaits h s j
+pub record Speaks (W : Wrapping) (h : Inputs) (s : Gifts) (j k : ℕ) (f : Frame) : Type 0 where
+  pub request : RequestWaits W h s j
   pub unit : request .r .unit ≡ k
   pub word : RequestWord s j (request .r) (f .word)
 
-pub record Spoken (h : Inputs) (s : Gifts) : Type 0 where
+pub record Spoken (W : Wrapping) (h : Inputs) (s : Gifts) : Type 0 where
   -- whatever goes out for Modbus, on whichever line, is the word of a request for that unit that was accepted and has no outcome
-  pub asked : (j k : ℕ) (f : Frame) → Four k → s j .out k ≡ sent Modbus f → Speaks h s j k f
+  pub asked : (j k : ℕ) (f : Frame) → Four k → s j .out k ≡ sent Modbus f → Speaks W h s j k f
   -- what each request is told, and what each outcome writes
-  pub told : (k : ℕ) (r : Request) → Fits r → Brings (sealed (bodyOfRequest r)) (h k) → RequestTold h s k r
-  pub ended : (k bytes wait : ℕ) → s k .told ≡ outcome bytes wait → Ended h s k
+  pub told : (k t : ℕ) (r : Request) → Fits r → Brings (W .wraps t (bodyOfRequest r)) (h k) → RequestTold W h s k t r
+  pub ended : (k bytes wait : ℕ) → s k .told ≡ outcome bytes wait → Ended W h s k

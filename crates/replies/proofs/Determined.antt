@@ -16,5 +16,5 @@ exception-one κs a u v x y p q = p ∙ sym q
 pub answer-one : One answer-kinds.ps answer-kinds.r answer-reads.Post
 answer-one κs a u v x y p q = p ∙ sym q
 
-pub write-one : OneRoom write-kinds.ps write-kinds.r write-reads.Post (λ κs x. now (x .1 .0))
+pub write-one : OneRoom write-kinds.ps write-kinds.r write-reads.Post (λ κs x. now (x .1 .1 .1 .0))
 write-one κs a u v x y p q = (p .0 ∙ sym (q .0), p .1 ∙ sym (q .1))

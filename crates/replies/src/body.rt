@@ -1,4 +1,4 @@
-// A reply's bytes in front of a room, before its checksum.
+// A reply's body in front of a room.
 use modbus::Reply;
 ghost use mathlib.Core.Path.{_≡_};
 ghost use Prim.Native.Nat.{_/_, _%_, _≤_};
@@ -41,7 +41,7 @@ fn five(a: u8, b: u8, c: u8, v: u16, room: &mut [u8]) -> usize
     5
 }
 
-fn six(a: u8, b: u8, o: u16, v: u16, room: &mut [u8]) -> usize
+pub(crate) fn six(a: u8, b: u8, o: u16, v: u16, room: &mut [u8]) -> usize
     requires { ⌜ 8 ≤ length (now room) ⌝ }
     ensures { λ n. ⌜ (n ≡ 6) × (now (room .exit) ≡ placed (a ∷ b ∷ pair o (pair v [])) (now (room .entry))) ⌝ }
 {

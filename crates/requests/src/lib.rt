@@ -1,27 +1,33 @@
-// Modbus messages: what becomes of one, silence, a reply at once or an order for a line.
+// Modbus messages, in either form: what becomes of one, silence, a reply at once or an order for a line; and what its reply brings back.
 mod functions;
 mod map;
 mod rows;
 mod shape;
+mod wrappings;
 
-use crate::map::read;
+use crate::wrappings::serial;
+use crate::wrappings::tcp;
+use modbus::MessageForm;
 use modbus::Reading;
+use places::pair_at;
 ghost use mathlib.Core.Path.{_≡_};
-ghost use Rattle.modbus.specs.Wire.{requestOf};
+ghost use Rattle.modbus.specs.Wrapping.{wrappingOf, reads};
 
-// A message of the serial line.
-pub fn request(message: &[u8]) -> Reading
-    ensures { λ r. ⌜ r ≡ requestOf (now (message .entry)) ⌝ }
+pub fn request(form: MessageForm, message: &[u8]) -> Reading
+    ensures { λ r. ⌜ r ≡ reads (wrappingOf form) (now (message .entry)) ⌝ }
 {
-    if message.len() < 4 {
-        return Reading::Silent(11);
+    match form {
+        MessageForm::Serial => serial(message),
+        MessageForm::Tcp => tcp(message),
     }
-    if 256 < message.len() {
-        return Reading::Silent(11);
+}
+
+// A serial message has none: 0.
+pub fn transaction(form: MessageForm, message: &[u8]) -> u16
+    ensures { λ r. ⌜ r ≡ wrappingOf form .transaction (now (message .entry)) ⌝ }
+{
+    match form {
+        MessageForm::Serial => 0,
+        MessageForm::Tcp => pair_at(message, 0),
     }
-    if !crc::passes(message) {
-        return Reading::Silent(12);
-    }
-    let n = message.len() - 2;
-    read(&message[..n])
 }

@@ -1,13 +1,14 @@
--- Lines with a frame, in ASCII, and what they say: which of the two numbers is which (02, Ask 3), and that one alone is none.
+-- Lines in ASCII, and what they say: which of a frame's two numbers is which (02, Ask 3), and that one alone is none; which form a new box has (02, Ask 4).
 -- Assumes nothing.
 use mathlib.Core.Path.{_≡_, refl}
 use mathlib.Core.List.{List, [], _∷_, _++_}
 use Prim.Native.Nat.{ℕ}
 use Rattle.places.specs.Bytes.{pairAt, wordAt}
-use Rattle.script.specs.declared.Event.the-variants.{Wrong, Thermostat, Boiler}
+use Rattle.modbus.specs.declared.MessageForm.the-variants.{Serial, Tcp}
+use Rattle.script.specs.declared.Event.the-variants.{Wrong, Thermostat, Boiler, Fresh}
 use Rattle.script.specs.Digits.{allDecimal, decimalFrom, boundedFrom, boundedOf, byteOf, digitOf, allHex, pairsOf, fits, hexWordOf}
 use Rattle.script.specs.Frames.{endOf, firstOf, restOf, spanOf, behindOf, framingOf}
-use Rattle.script.specs.Lines.{thermostat, boiler, begins, frameLine, plainLine}
+use Rattle.script.specs.Lines.{thermostat, boiler, begins, frameLine, isLine, aloneOf, plainLine}
 
 -- `2 80190000`
 abbrev frame : List ℕ
@@ -37,3 +38,21 @@ pub one-alone : plainLine (boiler ++ (frame ++ smallest)) ≡ Wrong
 unfolding plainLine frameLine begins firstOf restOf endOf framingOf behindOf spanOf byteOf boundedOf boundedFrom allDecimal decimalFrom hexWordOf fits allHex digitOf pairsOf
     wordAt pairAt
 one-alone = refl
+
+-- `fresh `
+abbrev fresh : List ℕ
+fresh = 102 ∷ 114 ∷ 101 ∷ 115 ∷ 104 ∷ 32 ∷ []
+
+-- `fresh serial`
+pub a-serial-box : plainLine (fresh ++ (115 ∷ 101 ∷ 114 ∷ 105 ∷ 97 ∷ 108 ∷ [])) ≡ Fresh Serial
+unfolding plainLine aloneOf isLine begins
+a-serial-box = refl
+
+-- `fresh tcp`, and with one more byte
+pub a-tcp-box : plainLine (fresh ++ (116 ∷ 99 ∷ 112 ∷ [])) ≡ Fresh Tcp
+unfolding plainLine aloneOf isLine begins
+a-tcp-box = refl
+
+pub not-a-box : plainLine (fresh ++ (116 ∷ 99 ∷ 112 ∷ 32 ∷ [])) ≡ Wrong
+unfolding plainLine aloneOf isLine begins
+not-a-box = refl

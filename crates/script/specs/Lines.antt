@@ -4,6 +4,8 @@
 --     boiler L F          the same from the boiler; L is 0 to 255, so that lines that aren't there can be tried
 --     modbus BYTES        a message, a pair of hexadecimal digits for each byte; `modbus` alone is a message of none
 --     room N              from now on a room of N bytes is lent for replies, 0 to 300
+--     fresh serial        a new box of that form, at time 0; or
+--     fresh tcp
 -- An empty line and one that begins with `#` are skipped. Any other line is wrong.
 -- Assumes nothing: these are definitions.
 use Prim.Native.Nat.{ℕ, _+_, _/_}
@@ -12,8 +14,9 @@ use mathlib.Core.List.{List, [], _∷_, _++_}
 use lib.Dec.{ltb, eqb}
 use lib.ListN.{length, drop}
 use Rattle.word.specs.declared.Frame.{Frame}
+use Rattle.modbus.specs.declared.MessageForm.the-variants.{Serial, Tcp}
 use Rattle.script.specs.declared.Event.{Event}
-use Rattle.script.specs.declared.Event.the-variants.{Skip, Wrong, Ticks, Thermostat, Boiler, Message, Room}
+use Rattle.script.specs.declared.Event.the-variants.{Skip, Wrong, Ticks, Thermostat, Boiler, Message, Room, Fresh}
 use Rattle.script.specs.declared.decimal.Byte.{Byte}
 use Rattle.script.specs.declared.decimal.Byte.the-variants as byte
 use Rattle.script.specs.declared.decimal.Number.{Number}
@@ -97,9 +100,24 @@ room = 114 ∷ 111 ∷ 111 ∷ 109 ∷ 32 ∷ []
 abbrev pub modbus : List ℕ
 modbus = 109 ∷ 111 ∷ 100 ∷ 98 ∷ 117 ∷ 115 ∷ []
 
--- a message of no bytes; any other line is wrong
+-- `fresh serial`
+abbrev pub freshSerial : List ℕ
+freshSerial = 102 ∷ 114 ∷ 101 ∷ 115 ∷ 104 ∷ 32 ∷ 115 ∷ 101 ∷ 114 ∷ 105 ∷ 97 ∷ 108 ∷ []
+
+-- `fresh tcp`
+abbrev pub freshTcp : List ℕ
+freshTcp = 102 ∷ 114 ∷ 101 ∷ 115 ∷ 104 ∷ 32 ∷ 116 ∷ 99 ∷ 112 ∷ []
+
+unfoldable pub isLine : List ℕ → List ℕ → Bool
+isLine w s = eqb (length s) (length w) && begins w s
+
+-- a message of no bytes, or a new box; any other line is wrong
 unfoldable pub aloneOf : List ℕ → Event
-aloneOf s = cond (eqb (length s) 6 && begins modbus s) (Message 0) Wrong
+aloneOf s =
+    cond (isLine modbus s) (Message 0)
+    (cond (isLine freshSerial s) (Fresh Serial)
+    (cond (isLine freshTcp s) (Fresh Tcp)
+    Wrong))
 
 -- a line that has no bytes of a message, its end left out
 unfoldable pub plainLine : List ℕ → Event

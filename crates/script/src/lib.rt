@@ -10,6 +10,7 @@ use frames::Framing;
 use frames::first;
 use frames::frame_of;
 use frames::rest;
+use modbus::MessageForm;
 use pairs::pairs;
 use places::word_at;
 use word::Frame;
@@ -26,6 +27,7 @@ ghost use Rattle.script.specs.Lines.{
   frameLine,
   placed,
   messageLine,
+  isLine,
   aloneOf,
   plainLine,
   scriptLine,
@@ -40,6 +42,7 @@ pub enum Event {
     Boiler(u8, Frame),
     Message(usize),
     Room(usize),
+    Fresh(MessageForm),
 }
 
 // A word of eight hexadecimal digits.
@@ -152,15 +155,28 @@ fn message(s: &[u8], bytes: &mut [u8]) -> Event
     Event::Message(s.len() / 2)
 }
 
-// A message of no bytes; any other line is wrong.
+// Whether the line is these bytes.
+fn whole(line: &[u8], bytes: &[u8]) -> bool
+    ensures { λ r. ⌜ r ≡ isLine (now (bytes .entry)) (now (line .entry)) ⌝ }
+{
+    if line.len() != bytes.len() {
+        return false;
+    }
+    begins(line, bytes)
+}
+
+// A line without a field that can differ: a message of no bytes, or a new box; any other is wrong.
 fn alone(line: &[u8]) -> Event
     ensures { λ r. ⌜ r ≡ aloneOf (now (line .entry)) ⌝ }
 {
-    if line.len() != 6 {
-        return Event::Wrong;
-    }
-    if begins(line, b"modbus") {
+    if whole(line, b"modbus") {
         return Event::Message(0);
+    }
+    if whole(line, b"fresh serial") {
+        return Event::Fresh(MessageForm::Serial);
+    }
+    if whole(line, b"fresh tcp") {
+        return Event::Fresh(MessageForm::Tcp);
     }
     Event::Wrong
 }

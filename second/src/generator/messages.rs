@@ -1,22 +1,34 @@
-//! Modbus messages: well-formed ones for a row of the table, and ones that fail one check of the
-//! order of checks, or two neighbouring ones at once.
+//! Modbus messages of either form: well-formed ones for a row of the table, and ones that fail one
+//! check of the order of checks, or two at once.
 
+mod cover;
 mod draft;
+mod either;
 
-use crate::modbus::ROWS;
+use crate::modbus::{Wrapping, ROWS};
 use crate::random::Random;
-use draft::{Checksum, Draft};
+use cover::Checksum;
+use draft::Draft;
+
+pub use either::message as of_either_form;
 
 /// A well-formed request for a row.
-pub fn request(random: &mut Random, row: usize, unit: u8, id: u8) -> Vec<u8> {
-    Draft::of(random, row, unit, id).bytes(random)
+pub fn request(random: &mut Random, form: Wrapping, row: usize, unit: u8, id: u8) -> Vec<u8> {
+    Draft::of(random, form, row, unit, id).bytes(random)
+}
+
+/// The version of unit 5 asked for, which changes nothing.
+pub fn version_request(random: &mut Random, form: Wrapping) -> Vec<u8> {
+    let mut draft = Draft::of(random, form, 0, 5, 0x76);
+    draft.read_offset = 0x0076;
+    draft.bytes(random)
 }
 
 /// A request to unit 5: its version register or another, well-formed.
-pub fn own_request(random: &mut Random) -> Vec<u8> {
+pub fn own_request(random: &mut Random, form: Wrapping) -> Vec<u8> {
     let row = random.below(4) as usize;
     let id = random.byte();
-    let mut draft = Draft::of(random, row, 5, id);
+    let mut draft = Draft::of(random, form, row, 5, id);
     let offset = random.pick(&[
         0x0076, 0x0076, 0x0076, 0x0077, 0x0075, 0x0176, 0x7600, 0x0000,
     ]);
@@ -25,50 +37,78 @@ pub fn own_request(random: &mut Random) -> Vec<u8> {
     draft.bytes(random)
 }
 
-/// A message that fails at least one check.
-pub fn strange(random: &mut Random) -> Vec<u8> {
+type Spoil = fn(&mut Random, &mut Draft);
+
+/// Each makes a draft fail one check of the body, in the order of checks.
+const SPOIL_BODY: [Spoil; 6] = [
+    |random, draft| draft.unit = random.pick(&[0, 0, 6, 6, 7, 0x31, 0x80, 0xF7, 0xFF]),
+    |random, draft| draft.function = random.pick(&[0x80, 0x83, 0x90, 0x97, 0xC1, 0xFF]),
+    spoil_function,
+    spoil_form,
+    spoil_offset,
+    spoil_message,
+];
+
+/// The same for what a form asks before.
+fn spoil_cover(form: Wrapping) -> &'static [Spoil] {
+    match form {
+        Wrapping::Serial => &[
+            |random, draft| draft.total = Some(random.pick(&[0, 1, 2, 3, 257, 257, 258, 299, 300])),
+            |random, draft| {
+                draft.cover.checksum = random.pick(&[Checksum::Swapped, Checksum::Wrong]);
+            },
+        ],
+        Wrapping::Tcp => &[
+            |random, draft| {
+                draft.total = Some(random.pick(&[0, 4, 5, 6, 7, 261, 261, 262, 299, 300]))
+            },
+            |random, draft| draft.cover.spoil_protocol(random),
+            |random, draft| draft.cover.spoil_length(random),
+        ],
+    }
+}
+
+/// A message that fails at least one check; half of them a later one too, most often one of the next.
+pub fn strange(random: &mut Random, form: Wrapping) -> Vec<u8> {
     let row = random.below(ROWS.len() as u64) as usize;
     let unit = random.between(1, 5) as u8;
     let other = random.byte();
     // The ids whose question is refused where no status is known: the other checks come first.
     let id = random.pick(&[0, 70, other, other]);
-    let mut draft = Draft::of(random, row, unit, id);
-    let first = random.below(8);
-    spoil(random, &mut draft, first);
-    if random.percent(50) {
-        spoil(random, &mut draft, first + 1);
+    let mut draft = Draft::of(random, form, row, unit, id);
+    let checks = [spoil_cover(form), &SPOIL_BODY].concat();
+    let first = random.below(checks.len() as u64) as usize;
+    checks[first](random, &mut draft);
+    let later = &checks[first + 1..];
+    if !later.is_empty() && random.percent(50) {
+        let near = random.pick(&later[..later.len().min(4)]);
+        let any = random.pick(later);
+        random.pick(&[later[0], near, near, any])(random, &mut draft);
     }
     draft.bytes(random)
 }
 
-/// Any length from 0 to 300 with a right or wrong checksum, most often at a border.
-pub fn of_length(random: &mut Random) -> Vec<u8> {
-    let total = match random.below(10) {
-        0..=6 => random.pick(&[0, 1, 2, 3, 4, 5, 255, 256, 257, 258, 300]),
-        _ => random.between(0, 300) as usize,
+/// Any length from 0 to 300, most often at a border, with a right or wrong checksum or length field.
+pub fn of_length(random: &mut Random, form: Wrapping) -> Vec<u8> {
+    let borders: &[usize] = match form {
+        Wrapping::Serial => &[0, 1, 2, 3, 4, 5, 255, 256, 257, 258, 259, 260, 261, 300],
+        Wrapping::Tcp => &[
+            0, 1, 2, 3, 4, 5, 6, 7, 8, 9, 255, 256, 257, 258, 259, 260, 261, 262, 300,
+        ],
+    };
+    let total = match random.percent(80) {
+        true => random.pick(borders),
+        false => random.between(0, 300) as usize,
     };
     let row = random.below(ROWS.len() as u64) as usize;
     let unit = random.between(1, 5) as u8;
-    let mut draft = Draft::of(random, row, unit, 0);
+    let mut draft = Draft::of(random, form, row, unit, 0);
     draft.total = Some(total);
-    if random.percent(15) {
-        draft.checksum = Checksum::Wrong;
+    if random.percent(40) {
+        draft.cover.checksum = Checksum::Wrong;
+        draft.cover.spoil_length(random);
     }
     draft.bytes(random)
-}
-
-/// Makes the draft fail the check of this number, counted along the order of checks.
-fn spoil(random: &mut Random, draft: &mut Draft, check: u64) {
-    match check {
-        0 => draft.total = Some(random.pick(&[0, 1, 2, 3, 257, 258, 299, 300])),
-        1 => draft.checksum = random.pick(&[Checksum::Swapped, Checksum::Wrong]),
-        2 => draft.unit = random.pick(&[0, 0, 6, 6, 7, 0x31, 0x80, 0xF7, 0xFF]),
-        3 => draft.function = random.pick(&[0x80, 0x83, 0x90, 0x97, 0xC1, 0xFF]),
-        4 => spoil_function(random, draft),
-        5 => spoil_form(random, draft),
-        6 => spoil_offset(random, draft),
-        _ => spoil_message(random, draft),
-    }
 }
 
 fn spoil_function(random: &mut Random, draft: &mut Draft) {
@@ -95,7 +135,7 @@ fn spoil_form(random: &mut Random, draft: &mut Draft) {
     }
     if random.percent(30) {
         // The data as if nothing were wrong, so that the count alone is.
-        draft.data = Some(1);
+        draft.registers = Some(1);
     }
 }
 

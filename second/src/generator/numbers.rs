@@ -54,11 +54,10 @@ fn two(random: &mut Random) -> Option<[u8; 2]> {
 }
 
 /// Lines that are good but for what follows their word: each of the forms for each side.
-pub fn wrong_lines(random: &mut Random) -> Vec<Vec<u8>> {
+pub fn wrong_lines() -> Vec<Vec<u8>> {
     let mut all = Vec::new();
     for head in ["thermostat 1 80190000", "boiler 2 40193280"] {
         all.extend(WRONG.map(|tail| format!("{head}{tail}").into_bytes()));
     }
-    random.shuffle(&mut all);
     all
 }

@@ -2,14 +2,16 @@
 //! so that frames can be aimed at the ages where an answer changes.
 
 mod frames;
+mod fresh;
 mod orders;
 mod status;
 mod time;
 
 use std::io;
 
-use super::{messages, numbers, strange_lines};
+use super::{fresh_lines, messages, numbers, strange_lines};
 use crate::digits::pairs;
+use crate::modbus::Wrapping;
 use crate::programs::replay::Replay;
 use crate::random::Random;
 
@@ -44,12 +46,14 @@ struct Script {
     size: usize,
     /// Plans still to come, dealt like cards so that each row meets each end.
     deck: Vec<Plan>,
-    /// Lines with wrong numbers still to come, dealt so that each form is tried.
+    /// Lines with wrong numbers or a wrong `fresh` still to come, dealt so that each form is tried.
     wrong_lines: Vec<Vec<u8>>,
     plan: Option<Plan>,
     longest_waits: u32,
     /// How often each line's thermostat speaks, drawn anew from time to time.
     chatty: [u64; 4],
+    /// How often a new box comes, drawn anew too: some have to last, since much shows late.
+    fresh_often: u64,
     /// For each line and status id the script's line from which on a status may go out.
     status_from: [[usize; 2]; 4],
     /// Those that have been asked for since their first status went out.
@@ -69,9 +73,13 @@ pub fn script(mut random: Random, size: usize) -> Vec<u8> {
         plan: None,
         longest_waits: 0,
         chatty: [1; 4],
+        fresh_often: 0,
         status_from,
         first_asked: [[false; 2]; 4],
     };
+    if script.random.percent(30) {
+        script.new_box();
+    }
     if script.random.percent(50) {
         script.longest_wait();
     }
@@ -90,6 +98,7 @@ impl Script {
             for chatty in &mut self.chatty {
                 *chatty = self.random.pick(&[0, 1, 5, 20]);
             }
+            self.fresh_often = self.random.pick(&[0, 0, 0, 50]);
         }
         self.first_status();
         match self.random.below(100) {
@@ -98,7 +107,8 @@ impl Script {
             25..=34 => self.order(),
             35..=44 => self.odd_message(),
             45..=47 => {
-                let message = messages::own_request(&mut self.random);
+                let form = self.form();
+                let message = messages::own_request(&mut self.random, form);
                 self.modbus(&message);
             }
             48..=50 => self.no_line(),
@@ -109,6 +119,7 @@ impl Script {
             53..=54 => self.short_room(),
             55 => self.held_status(),
             56..=58 => self.status_order(),
+            59 if self.random.percent(self.fresh_often) => self.fresh(),
             _ => self.advance(),
         }
     }
@@ -144,12 +155,19 @@ impl Script {
         }
     }
 
-    /// A line that is none, often for its numbers alone.
+    /// The form of the box as it is now.
+    fn form(&self) -> Wrapping {
+        self.model.gateway.wrapping
+    }
+
+    /// A line that is none, often for its numbers alone, or a `fresh` that is wrong.
     fn no_line(&mut self) {
         if self.wrong_lines.is_empty() {
-            self.wrong_lines = numbers::wrong_lines(&mut self.random);
+            self.wrong_lines = numbers::wrong_lines();
+            self.wrong_lines.extend(fresh_lines::wrong_lines());
+            self.random.shuffle(&mut self.wrong_lines);
         }
-        let line = match self.random.percent(30) {
+        let line = match self.random.percent(45) {
             true => self.wrong_lines.pop().expect("just filled"),
             false => strange_lines::no_line(&mut self.random),
         };

@@ -15,10 +15,3 @@ pub fn checksum(bytes: &[u8]) -> [u8; 2] {
     }
     sum.to_le_bytes()
 }
-
-/// The bytes with their checksum behind them.
-pub fn closed(content: &[u8]) -> Vec<u8> {
-    let mut message = content.to_vec();
-    message.extend(checksum(content));
-    message
-}

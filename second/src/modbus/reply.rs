@@ -1,6 +1,5 @@
-//! Replies: exceptions, and what the outcome of an order brings.
+//! The bodies of replies: exceptions, and what the outcome of an order brings.
 
-use super::checksum::closed;
 use super::exceptions;
 use super::rows::{Form, ROWS};
 use crate::status::Question;
@@ -54,9 +53,9 @@ fn normal_reply(order: &Order, form: Form, kind: u8, value: u16) -> Vec<u8> {
         Form::NoNormalReply => {}
         Form::Message => reply.extend([oh, ol, vh, vl, 0, kind * 16]),
     }
-    closed(&reply)
+    reply
 }
 
 pub fn exception(unit: u8, function: u8, code: u8) -> Vec<u8> {
-    closed(&[unit, function | 0x80, code])
+    vec![unit, function | 0x80, code]
 }

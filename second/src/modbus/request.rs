@@ -12,7 +12,7 @@ pub struct Request {
 
 /// "Exact length and byte count, then counts": "Counts are 1 (for 17: 0 or 1 each, not both
 /// 0)."
-pub fn read(function: u8, body: &[u8]) -> Option<Request> {
+pub fn read(function: u8, data: &[u8]) -> Option<Request> {
     let number = |high, low| u16::from_be_bytes([high, low]);
     let plain = |counts, offset, value| {
         Some(Request {
@@ -23,13 +23,13 @@ pub fn read(function: u8, body: &[u8]) -> Option<Request> {
             message: 0,
         })
     };
-    match (function, body) {
+    match (function, data) {
         (0x03 | 0x04, &[oh, ol, 0, 1]) => plain((1, 0), number(oh, ol), 0),
         (0x06, &[oh, ol, vh, vl]) => plain((0, 1), number(oh, ol), number(vh, vl)),
         (0x10, &[oh, ol, 0, 1, 2, vh, vl]) => plain((0, 1), number(oh, ol), number(vh, vl)),
-        (0x17, &[rh, rl, nh, nl, wh, wl, mh, ml, byte_count, ref data @ ..]) => {
+        (0x17, &[rh, rl, nh, nl, wh, wl, mh, ml, byte_count, ref written @ ..]) => {
             let counts = (number(nh, nl), number(mh, ml));
-            request_17(number(rh, rl), number(wh, wl), counts, byte_count, data)
+            request_17(number(rh, rl), number(wh, wl), counts, byte_count, written)
         }
         (0x41, &[oh, ol, vh, vl, mh, ml]) => {
             let request = plain((1, 1), number(oh, ol), number(vh, vl))?;

@@ -3,6 +3,7 @@
 use crate::digits;
 use crate::frame::{Edges, Frame, NO_EDGES};
 use crate::gateway::Side;
+use crate::modbus::Wrapping;
 
 const LONGEST_MESSAGE: usize = 300;
 const LARGEST_ROOM: u64 = 300;
@@ -12,6 +13,7 @@ pub enum Command {
     Frame(Side, u8, Came),
     Modbus(Vec<u8>),
     Room(usize),
+    Fresh(Wrapping),
 }
 
 /// A frame as its line gives it: the word, and the two numbers behind it where they stand.
@@ -42,6 +44,8 @@ impl Command {
             [b"modbus"] => Some(Command::Modbus(Vec::new())),
             [b"modbus", bytes] => Some(Command::Modbus(message(bytes)?)),
             [b"room", size] => Some(Command::Room(number(size, 0, LARGEST_ROOM)? as usize)),
+            [b"fresh", b"serial"] => Some(Command::Fresh(Wrapping::Serial)),
+            [b"fresh", b"tcp"] => Some(Command::Fresh(Wrapping::Tcp)),
             _ => None,
         }
     }

@@ -7,6 +7,7 @@ use super::stream::Program;
 use crate::digits::pairs;
 use crate::frame::Frame;
 use crate::gateway::{Event, Gateway, Side};
+use crate::modbus::Wrapping;
 use crate::tally::{Tally, Thing};
 use crate::word;
 
@@ -22,9 +23,10 @@ pub struct Replay {
 }
 
 impl Replay {
+    /// "A script begins with a serial box."
     pub fn fresh() -> Replay {
         Replay {
-            gateway: Gateway::fresh(),
+            gateway: Gateway::fresh(Wrapping::Serial),
             room: ROOM_AT_START,
             tally: Tally::default(),
             time: 0,
@@ -62,6 +64,11 @@ impl Replay {
             Command::Tick(count) => return self.ticks(count, trace),
             Command::Room(room) => {
                 self.room = room;
+                self.tally.room();
+                return Ok(());
+            }
+            Command::Fresh(wrapping) => {
+                self.new_box(wrapping);
                 return Ok(());
             }
             Command::Frame(side, line, came) => self.frame(side, line, came),
@@ -70,9 +77,16 @@ impl Replay {
         self.print(&event, trace)
     }
 
+    /// "Time starts again at 0, all lines fresh, no order waits, the room stays as it was set."
+    fn new_box(&mut self, wrapping: Wrapping) {
+        self.gateway = Gateway::fresh(wrapping);
+        self.time = 0;
+        self.tally.fresh(wrapping);
+    }
+
     fn message(&mut self, message: &[u8]) -> Event {
         let given = self.gateway.message(message, self.room);
-        self.tally.asked(message, &given);
+        self.tally.message(message, &given);
         given
     }
 
@@ -97,7 +111,7 @@ impl Replay {
             let events = self.gateway.tick(self.room);
             if !matches!(events[..], [Event::Refused(_)]) {
                 self.time += 1;
-                self.tally.count(Thing::Tick);
+                self.tally.tick();
             }
             for event in &events {
                 self.print(event, trace)?;

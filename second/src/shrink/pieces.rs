@@ -38,6 +38,10 @@ pub fn without_numbers(line: &[u8]) -> Option<Piece> {
     }
 }
 
+pub fn begins_a_box(line: &[u8]) -> bool {
+    line == b"fresh serial\n" || line == b"fresh tcp\n"
+}
+
 pub fn ticks(line: &[u8]) -> Option<u64> {
     let line = std::str::from_utf8(line).ok()?;
     line.strip_suffix('\n')?.strip_prefix("tick ")?.parse().ok()

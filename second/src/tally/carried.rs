@@ -4,7 +4,7 @@
 mod memory;
 mod table;
 
-use super::{exception, Tally, Thing};
+use super::{Tally, Thing};
 use crate::frame::{Edges, NO_EDGES};
 use crate::gateway::{Event, Side};
 use crate::generator::numbers::WRONG;
@@ -77,8 +77,7 @@ impl Tally {
         self.count(Thing::Carried(carried));
     }
 
-    /// A line of a script, and what it was read as.
-    pub fn spelled(&mut self, line: &[u8], command: Option<&Command>) {
+    pub(super) fn numbers_spelled(&mut self, line: &[u8], command: Option<&Command>) {
         match command {
             Some(Command::Frame(side, _, Came { edges: Some(_), .. })) => {
                 let mut numbers = line.split(|byte| *byte == b' ').skip(3);
@@ -98,8 +97,7 @@ impl Tally {
         }
     }
 
-    /// A frame that comes, and what it is given.
-    pub fn came(&mut self, side: Side, line: u8, came: Came, given: &Event) {
+    pub(super) fn numbers_came(&mut self, side: Side, line: u8, came: Came, given: &Event) {
         let has_numbers = came.frame().edges != NO_EDGES;
         match given {
             Event::Passed { frame, .. } if *frame == came.frame() => self.goes(side, line, came),
@@ -107,7 +105,8 @@ impl Tally {
                 self.carried(Carried::Dropped(self.memory.held_again(line)));
             }
             Event::Outcome { bytes, .. } if has_numbers => {
-                self.carried(Carried::Outcome(exception(bytes).is_some()));
+                let code = self.exception(bytes);
+                self.carried(Carried::Outcome(code.is_some()));
             }
             Event::Refused(number) if has_numbers => self.carried(Carried::Refused(side, *number)),
             _ => {}

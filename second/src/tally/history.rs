@@ -104,6 +104,11 @@ impl History {
         &self.lines[usize::from(line) - 1].ids[place]
     }
 
+    /// The lines and places of ids whose status went out.
+    pub fn known(&self) -> [[bool; 2]; 4] {
+        self.lines.map(|line| line.ids.map(|id| id.out.is_some()))
+    }
+
     /// The high byte of a READ-DATA with this id that is held now.
     pub fn held(&self, line: u8, id: u8) -> Option<u8> {
         let frame = self.lines[usize::from(line) - 1].held?;

@@ -6,7 +6,7 @@ mod table;
 
 use super::grounds::Ground;
 use super::history::Talk;
-use super::{exception, Tally, Thing};
+use super::{Tally, Thing};
 use crate::gateway::Event;
 use crate::line::Owner;
 use crate::modbus::{self, exceptions, Judged, Order};
@@ -38,21 +38,25 @@ pub enum Status {
 
 impl Tally {
     /// A message and what it was given; only those that ask for a status are looked at.
-    pub fn asked(&mut self, message: &[u8], given: &Event) {
-        let Judged::Order(order) = modbus::judge(message) else {
+    pub(super) fn asked(&mut self, message: &[u8], given: &Event) {
+        let Ok(message) = self.form().taken_off(message) else {
+            return;
+        };
+        let Judged::Order(order) = modbus::judge(message.body) else {
             return;
         };
         let Question::Status(id) = order.question else {
             return;
         };
         let code = match given {
-            Event::Reply { bytes } => exception(bytes),
+            Event::Reply { bytes } => self.exception(bytes),
             Event::Accepted { .. } => None,
             _ => return,
         };
         if code == Some(exceptions::DEVICE_FAILURE) {
             let grounds = self.history.unknown(order.unit, id);
             self.count_all(grounds.into_iter().map(Status::Unknown));
+            self.fresh_unknown(order.unit, id);
         }
         if let (Some(code), Some((under_way, _))) = (code, self.history.order) {
             self.count_all([Status::Busy(code, under_way.unit == order.unit)]);
@@ -83,7 +87,8 @@ impl Tally {
             } => self.own_frame(frame.word),
             Event::Outcome { order, bytes, .. } => {
                 if let Question::Status(_) = order.question {
-                    self.count_all([Status::Outcome(order.function, exception(bytes))]);
+                    let code = self.exception(bytes);
+                    self.count_all([Status::Outcome(order.function, code)]);
                 }
             }
             _ => {}

@@ -3,7 +3,7 @@
 
 use crate::frame::Frame;
 use crate::gateway::{Event, Gateway};
-use crate::modbus::closed;
+use crate::modbus::{closed, Wrapping};
 
 // READ-DATA of the two ids with their values, the parity bit counted by hand.
 pub const ID_0_0312: u32 = 0x0000_0312;
@@ -72,11 +72,18 @@ pub fn sent_frames(gateway: &mut Gateway, ticks: u32) -> Vec<(u8, Frame)> {
 /// A box in which these frames of thermostats went out, one after the other, each without an answer;
 /// all four lines have rested.
 pub fn after(frames: &[(u8, u32)]) -> Gateway {
-    let mut gateway = Gateway::fresh();
+    let mut gateway = Gateway::fresh(Wrapping::Serial);
     for frame in frames {
         gateway.thermostat(frame.0, frame.1);
         assert_eq!(sent(&mut gateway, 975), [*frame]);
     }
     sent(&mut gateway, 100);
     gateway
+}
+
+/// A TCP message or reply by the byte, apart from the one that the box writes.
+pub fn tcp(transaction: u16, body: &[u8]) -> Vec<u8> {
+    let (high, low) = ((transaction >> 8) as u8, transaction as u8);
+    let head = [high, low, 0, 0, 0, body.len() as u8];
+    [&head, body].concat()
 }

@@ -4,7 +4,7 @@ use super::bench::sent_frames;
 use crate::frame::{Edges, Frame, NO_EDGES};
 use crate::gateway::{Event, Gateway};
 use crate::line::{Answered, Line, Ticked};
-use crate::modbus::closed;
+use crate::modbus::{closed, Wrapping};
 
 const READ_25: u32 = 0x8019_0000;
 const READ_26: u32 = 0x801A_0000;
@@ -48,7 +48,7 @@ fn a_later_frame_brings_its_own_and_a_refused_one_none() {
     let [older, later, refused] = [(18, 19), (21, 22), (20, 20)];
     for later in [later, (0, 0), (19, 18)] {
         for word in [READ_25, READ_26] {
-            let mut gateway = Gateway::fresh();
+            let mut gateway = Gateway::fresh(Wrapping::Serial);
             gateway.thermostat(3, frame(READ_25, older.0, older.1));
             gateway.thermostat(3, frame(word, later.0, later.1));
             gateway.thermostat(2, frame(READ_25, 23, 23));
@@ -73,7 +73,7 @@ fn a_later_frame_brings_its_own_and_a_refused_one_none() {
 /// "An order's word has none; a Modbus reply shows none."
 #[test]
 fn an_order_has_none() {
-    let mut gateway = Gateway::fresh();
+    let mut gateway = Gateway::fresh(Wrapping::Serial);
     gateway.thermostat(1, frame(READ_25, 19, 22));
     gateway.message(&closed(&[1, 3, 0, 26, 0, 1]), 16);
     assert_eq!(
@@ -97,7 +97,7 @@ fn an_order_has_none() {
 fn a_day(numbers: [(u8, u8); 3]) -> Vec<Event> {
     let [first, second, third] = numbers;
     let of = |word, (smallest, largest)| frame(word, smallest, largest);
-    let mut gateway = Gateway::fresh();
+    let mut gateway = Gateway::fresh(Wrapping::Serial);
     let mut events = vec![
         gateway.thermostat(1, of(READ_25, first)),
         gateway.thermostat(1, of(READ_25, second)),

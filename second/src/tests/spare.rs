@@ -2,7 +2,7 @@
 
 use crate::gateway::{Event, Gateway};
 use crate::line::{Answered, Line, State};
-use crate::modbus;
+use crate::modbus::{self, Wrapping};
 use crate::programs::{self, Name};
 use crate::samples;
 use crate::status::Question;
@@ -55,7 +55,7 @@ fn a_pair_of_flips_passes_where_neither_is_spare() {
 
 #[test]
 fn the_orders_are_15_9_5_16_6_7_8_and_9_5_16_6() {
-    let mut gateway = Gateway::fresh();
+    let mut gateway = Gateway::fresh(Wrapping::Serial);
     let request = modbus::closed(&[2, 3, 0, 25, 0, 1]);
     gateway.message(&request, 16);
     for _ in 0..183 {

@@ -4,11 +4,11 @@
 use super::bench::{after, ask, asking, both_17, message_41, read_17, sent};
 use super::bench::{ID_0_0300, ID_0_0312, ID_70_0100, ID_70_0155};
 use crate::gateway::{Event, Gateway};
-use crate::modbus::closed;
+use crate::modbus::{closed, Wrapping};
 
 #[test]
 fn no_status_is_04_at_once_for_each_line_code_and_page() {
-    let mut gateway = Gateway::fresh();
+    let mut gateway = Gateway::fresh(Wrapping::Serial);
     let fresh = gateway.lines;
     for unit in 1..=4 {
         for page in 0..=0xFFu16 {
@@ -50,7 +50,7 @@ fn the_high_byte_goes_out_for_each_line_code_and_page() {
 #[test]
 fn all_else_stays() {
     let known = [(1, ID_0_0312), (1, ID_70_0155)];
-    for mut gateway in [Gateway::fresh(), after(&known)] {
+    for mut gateway in [Gateway::fresh(Wrapping::Serial), after(&known)] {
         for (message, word) in [
             (message_41(1, 0, 0x0102), 0x0000_0102),
             (message_41(1, 70, 0x0000), 0x8046_0000),
@@ -66,7 +66,7 @@ fn all_else_stays() {
             assert_eq!(sent(&mut gateway, 1075), [(1, word)]);
         }
     }
-    let mut gateway = Gateway::fresh();
+    let mut gateway = Gateway::fresh(Wrapping::Serial);
     for id in (1..=255).filter(|id| *id != 70) {
         for message in asking(4, id) {
             assert_eq!(ask(&mut gateway, &message), None);

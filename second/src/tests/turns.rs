@@ -2,7 +2,7 @@
 
 use crate::gateway::{Event, Gateway};
 use crate::line::{Answered, Line, Owner, State, Ticked};
-use crate::modbus;
+use crate::modbus::{self, Wrapping};
 use crate::status::Question;
 
 const READ_25: u32 = 0x8019_0000;
@@ -59,7 +59,7 @@ fn p10_a_match_at_874_and_tick_875() {
 
 #[test]
 fn p12_the_longest_wait() {
-    let mut gateway = Gateway::fresh();
+    let mut gateway = Gateway::fresh(Wrapping::Serial);
     assert!(matches!(gateway.thermostat(1, READ_25), Event::Held { .. }));
     let request = modbus::closed(&[1, 3, 0, 26, 0, 1]);
     assert!(matches!(
@@ -106,7 +106,7 @@ fn run_thermostat_reply_at_800_and_801() {
 
 #[test]
 fn a_refused_call_leaves_the_box_as_it_was() {
-    let mut gateway = Gateway::fresh();
+    let mut gateway = Gateway::fresh(Wrapping::Serial);
     gateway.thermostat(2, READ_25);
     let lines = gateway.lines;
     assert_eq!(gateway.tick(15), [Event::Refused(15)]);

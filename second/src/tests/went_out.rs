@@ -4,12 +4,12 @@
 use super::bench::{after, ask, asking, both_17, message_41, sent};
 use super::bench::{ID_0_0300, ID_0_0312, ID_0_0700, ID_0_0701, ID_70_0100, ID_70_0155};
 use crate::gateway::{Event, Gateway};
-use crate::modbus::closed;
+use crate::modbus::{closed, Wrapping};
 
 #[test]
 fn a_held_frame_is_not_out_and_a_talk_that_started_is() {
     let [question, ..] = asking(1, 0);
-    let mut gateway = Gateway::fresh();
+    let mut gateway = Gateway::fresh(Wrapping::Serial);
     gateway.thermostat(1, ID_0_0312);
     assert_eq!(ask(&mut gateway, &question), Some(0x04));
     assert_eq!(sent(&mut gateway, 99), []);

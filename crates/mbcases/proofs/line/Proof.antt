@@ -30,8 +30,8 @@ slice-aggregate-parse c = search needs
 parse-requires : tie.Need-parse-requires
 parse-requires c κs = search needs
 
-shared-slice-read-if3 : tie.Need-shared-slice-read-if3
-shared-slice-read-if3 c = search needs
+shared-slice-read-mark : tie.Need-shared-slice-read-mark
+shared-slice-read-mark c = search needs
 
 array-share-prefix-room : tie.Need-array-share-prefix-room
 array-share-prefix-room c = search needs
@@ -42,8 +42,11 @@ slice-aggregate-checksum c = simp length-take (omega arith)
 checksum-requires : tie.Need-checksum-requires
 checksum-requires c κs = search needs
 
-shared-slice-read-if4 : tie.Need-shared-slice-read-if4
-shared-slice-read-if4 c = search needs
+roomy-requires : tie.Need-roomy-requires
+roomy-requires c κs = search needs
+
+form-of-requires : tie.Need-form-of-requires
+form-of-requires c κs = search needs
 
 array-share-prefix-room-2 : tie.Need-array-share-prefix-room-2
 array-share-prefix-room-2 c = search needs
@@ -53,6 +56,9 @@ slice-aggregate-rooms c = simp length-take (omega arith)
 
 rooms-requires : tie.Need-rooms-requires
 rooms-requires c κs = search needs
+
+form-of-requires-2 : tie.Need-form-of-requires-2
+form-of-requires-2 c κs = search needs
 
 array-share-prefix-room-3 : tie.Need-array-share-prefix-room-3
 array-share-prefix-room-3 c = search needs
@@ -84,14 +90,16 @@ line-spec =
     buffer-requires
     slice-aggregate-parse
     parse-requires
-    shared-slice-read-if3
+    shared-slice-read-mark
     array-share-prefix-room
     slice-aggregate-checksum
     checksum-requires
-    shared-slice-read-if4
+    roomy-requires
+    form-of-requires
     array-share-prefix-room-2
     slice-aggregate-rooms
     rooms-requires
+    form-of-requires-2
     array-share-prefix-room-3
     slice-aggregate-message
     message-requires

@@ -26,7 +26,7 @@ number-requires c κs = search needs
 slice-aggregate-bytes : tie.Need-slice-aggregate-bytes
 slice-aggregate-bytes c =
     let w = c .before .before .before in
-    sym (length-front (replicate 20 0xee) (w .write .last .1 .0) (w .before .before .before .args .n) (w .write .kept .1 .0))
+    sym (length-front (replicate 20 0xee) (w .write .last .1 .1 .1 .0) (w .before .before .before .args .n) (w .write .kept .1 .1 .1 .0))
 
 bytes-requires : tie.Need-bytes-requires
 bytes-requires c κs = search needs

@@ -12,7 +12,7 @@ use Rattle.modbus.specs.declared.rows.Found.the-variants.{First, Nothing
 use Rattle.modbus.specs.declared.rows.Row.{Row}
 use Rattle.modbus.specs.declared.shape.Fields.{Fields}
 use Rattle.modbus.specs.Mapping.{mappingRows, offsetBy, onOf, fitsOf, firstOf}
-use Rattle.modbus.specs.Wrapping.{Coded}
+use Rattle.modbus.specs.Lawful.{Coded}
 
 abbrev AllCoded : List Row → Type 0
 AllCoded [] = Unit {0}

@@ -13,6 +13,12 @@ Inv-loop block message room₀ gateway₀ at₀ room gateway at = length room �
 abbrev μ-loop : tie.MeasureT-loop
 μ-loop block message room₀ gateway₀ at₀ room gateway at = 128 - at
 
+byte-at-requires : tie.Need-byte-at-requires Inv-loop μ-loop
+byte-at-requires c κs = search needs
+
+form-of-requires : tie.Need-form-of-requires Inv-loop μ-loop
+form-of-requires c κs = search needs
+
 fresh-requires : tie.Need-fresh-requires Inv-loop μ-loop
 fresh-requires c κs = search needs
 
@@ -43,6 +49,8 @@ set-up-spec =
     (tie.spec
     Inv-loop
     μ-loop
+    byte-at-requires
+    form-of-requires
     fresh-requires
     loop-holds
     happened-requires

@@ -2,7 +2,7 @@
 -- accepts it.
 -- Assumes nothing.
 use Prim.Native.Nat.{ℕ, suc}
-use mathlib.Core.Path.{_≡_, refl, sym, ap, _∙_, subst}
+use mathlib.Core.Path.{_≡_, refl, sym, ap, ap₂, _∙_, subst}
 use mathlib.Core.Bool.{Bool, true, false, cond}
 use mathlib.Core.List.{[]}
 use lib.Dec.{eqb}
@@ -15,7 +15,9 @@ use Rattle.turns.specs.Promise.{Accepted, UnderWay, OrderTold, taken, lacking, 
 use Rattle.turns.specs.History.{sight}
 use Rattle.modbus.specs.declared.Order.{Order}
 use Rattle.modbus.specs.declared.Reading.the-variants as reading
-use Rattle.modbus.specs.Wrapping.{Wrapping, Lawful}
+use Rattle.modbus.specs.Wrapping.{Wrapping, reads}
+use Rattle.modbus.specs.Lawful.{Lawful}
+use Rattle.promises.specs.declared.Asking.{Asking}
 use Rattle.promises.specs.declared.Asked.the-variants.{Nothing, Waits}
 use Rattle.promises.specs.Box.{Gateway}
 use Rattle.promises.specs.Notes.{BoxNote, accepted, concernOf}
@@ -31,13 +33,16 @@ use Rattle.promises.proofs.Demand3.Effects.{Effect, begins, stays, fini
 use Rattle.promises.proofs.Demand3.Lacking.{has-status, lack-there}
 use Rattle.promises.proofs.Demand3.Under.{seen, E, S, under, under-next, track, on-line}
 
+abbrev asking : Order → ℕ → Asking
+asking o t = record { order = o; transaction = t }
+
 -- an input that is an order to line k is an accepted message
 record Orders (W : Wrapping) (k : ℕ) (w : Query) (x : Input) (g′ : Gateway) (s : Gift) : Type 0 where
-  pub o : Order
+  pub o : Asking
   pub asks : AsksFor W o x
   pub taken : s .told ≡ accepted
-  pub line : o .line ≡ k
-  pub word : questionOf o ≡ w
+  pub line : o .order .line ≡ k
+  pub word : questionOf (o .order) ≡ w
   pub first : g′ .asked ≡ Waits o
 
 module _ (W : Wrapping) (g : Gateway) {k : ℕ} (f : Four k) (w : Query) where
@@ -56,20 +61,20 @@ module _ (W : Wrapping) (g : Gateway) {k : ℕ} (f : Four k) (w : Query) where
       absurd
       (other (line.boiler x) (eqb l k) (λ q. clash cc)
       (sym (ap (λ (b : Bool). cond b (cond (eqb l k) (line.boiler x) line.pass) line.pass) (le-leb 16 n h)) ∙ e))
-  orders {x} (takes o has free asks) e = go (eqb (o .line) k) refl (sym (order-seen W k x o asks) ∙ e)
+  orders {x} (takes o has free asks) e = go (eqb (o .order .line) k) refl (sym (order-seen W k x o asks) ∙ e)
     where
-      go : (b : Bool) → eqb (o .line) k ≡ b → cond b (line.order (questionOf o)) line.pass ≡ line.order w →
+      go : (b : Bool) → eqb (o .order .line) k ≡ b → cond b (line.order (questionOf (o .order))) line.pass ≡ line.order w →
           Orders W k w x (takenOf g o .gateway) (gift accepted [] nowhere)
-      go true p q = record { o = o; asks = asks; taken = refl; line = eqb-true (o .line) k p; word = cc; first = refl }
+      go true p q = record { o = o; asks = asks; taken = refl; line = eqb-true (o .order .line) k p; word = cc; first = refl }
       go false p q = clash cc
 
 module _ {W : Wrapping} (law : Lawful W) (h : Inputs) where
   -- an order on line k is an accepted message's
   pub record Begun (k i : ℕ) (w : Query) : Type 0 where
-    pub o : Order
+    pub o : Asking
     pub accepted : Accepted (seen law h) i o
-    pub line : o .line ≡ k
-    pub word : questionOf o ≡ w
+    pub line : o .order .line ≡ k
+    pub word : questionOf (o .order) ≡ w
     pub first : under law h (suc i) ≡ Waits o
 
   pub order-on : {k : ℕ} → Four k → (i : ℕ) (w : Query) → E law h k i ≡ line.order w → Begun k i w
@@ -97,36 +102,38 @@ module _ {W : Wrapping} (law : Lawful W) (h : Inputs) where
       }
 
   -- a message asks one order
-  one-order : (o p : Order) (x : Input) → AsksFor W o x → AsksFor W p x → p ≡ o
+  one-order : (o p : Asking) (x : Input) → AsksFor W o x → AsksFor W p x → p ≡ o
   one-order o p x a b =
       let c : message (a .bytes) (a .brings .room) ≡ message (b .bytes) (b .brings .room) = sym (a .brings .is) ∙ b .brings .is in
       let d : a .bytes ≡ b .bytes = cc in
-      let q : reading.Accepted p ≡ reading.Accepted o = sym (b .reads) ∙ ap (W .reads) (sym d) ∙ a .reads in
-      cc
+      let q : reading.Accepted (p .order) ≡ reading.Accepted (o .order) = sym (b .order) ∙ ap (reads W) (sym d) ∙ a .order in
+      let t : p .transaction ≡ o .transaction = sym (b .own) ∙ ap (W .transaction) (sym d) ∙ a .own in
+      let e : p .order ≡ o .order = cc in
+      ap₂ asking e t
 
   -- an accepted message's line accepts its order
-  pub record Taken (i : ℕ) (o : Order) : Type 0 where
-    pub unit : Four (o .line)
+  pub record Taken (i : ℕ) (o : Asking) : Type 0 where
+    pub unit : Four (o .order .line)
     pub free : under law h i ≡ Nothing
     pub first : under law h (suc i) ≡ Waits o
-    pub there : Accepted (sight (E law h (o .line))) i (questionOf o)
+    pub there : Accepted (sight (E law h (o .order .line))) i (questionOf (o .order))
 
-  pub taken-on : (i : ℕ) (o : Order) → Accepted (seen law h) i o → Taken i o
+  pub taken-on : (i : ℕ) (o : Asking) → Accepted (seen law h) i o → Taken i o
   taken-on i o acc = go (effect-at law h i)
     where
-      unit : Four (o .line)
+      unit : Four (o .order .line)
       unit = unit-of law o (h i) (acc .asked)
 
-      asked : E law h (o .line) i ≡ line.order (questionOf o)
+      asked : E law h (o .order .line) i ≡ line.order (questionOf (o .order))
       asked =
-          ap (λ (t : BoxNote). eventOn W (o .line) (h i) t) (acc .taken) ∙ order-seen W (o .line) (h i) o (acc .asked)
-          ∙ ap (λ (b : Bool). cond b (line.order (questionOf o)) line.pass) (eq-eqb (o .line) (o .line) refl)
+          ap (λ (t : BoxNote). eventOn W (o .order .line) (h i) t) (acc .taken) ∙ order-seen W (o .order .line) (h i) o (acc .asked)
+          ∙ ap (λ (b : Bool). cond b (line.order (questionOf (o .order))) line.pass) (eq-eqb (o .order .line) (o .order .line) refl)
 
       -- no line of the box is asked twice
-      not-twice : under law h i ≡ Nothing → UnderWay (sight (E law h (o .line))) i → ⊥
+      not-twice : under law h i ≡ Nothing → UnderWay (sight (E law h (o .order .line))) i → ⊥
       not-twice free u = let b = held unit i u in let e : Nothing ≡ Waits (b .begun .o) = sym free ∙ b .waits in clash cc
 
-      ready : under law h i ≡ Nothing → OrderTold (sight (E law h (o .line))) i (questionOf o) → S law h (o .line) i ≡ line.accepted
+      ready : under law h i ≡ Nothing → OrderTold (sight (E law h (o .order .line))) i (questionOf (o .order)) → S law h (o .order .line) i ≡ line.accepted
       ready free (taken e has none) = e
       ready free (lacking e l) =
           let x = has-status W (boxAt W h i) o (h i) (acc .asked) (acc .taken) in
@@ -141,7 +148,7 @@ module _ {W : Wrapping} (law : Lawful W) (h : Inputs) where
         first = under-next law h i ∙ is ∙ ap Waits (one-order o p (h i) (acc .asked) ask);
         there = record {
           asked = asked;
-          taken = ready was (on-line law h (o .line) .ready i (questionOf o) asked);
+          taken = ready was (on-line law h (o .order .line) .ready i (questionOf (o .order)) asked);
         };
       }
       go (stays same z u) = let one = ap concernOf (acc .taken) in clash cc

@@ -11,9 +11,10 @@ use Rattle.turns.specs.Promise.{View, Demand3, UnderWay}
 use Rattle.turns.specs.History.{notes, sight}
 use Rattle.turns.proofs.Clock.{last-or}
 use Rattle.turns.proofs.Demand3.{demand3}
-use Rattle.modbus.specs.declared.Order.{Order}
 use Rattle.modbus.specs.declared.Reply.{Reply}
-use Rattle.modbus.specs.Wrapping.{Wrapping, Lawful}
+use Rattle.modbus.specs.Wrapping.{Wrapping}
+use Rattle.modbus.specs.Lawful.{Lawful}
+use Rattle.promises.specs.declared.Asking.{Asking}
 use Rattle.promises.specs.declared.Asked.{Asked}
 use Rattle.promises.specs.declared.Asked.the-variants.{Nothing, Waits}
 use Rattle.promises.specs.declared.Settled.the-variants.{Came}
@@ -28,21 +29,21 @@ use Rattle.promises.proofs.Projection.Project.{noteAt, note-is}
 use Rattle.promises.proofs.Demand3.Effects.{settledBy, Effect, begins, stays, finishes, named-at, effect-at}
 
 -- what settles an order is a note of its outcome
-came-ends : (o : Order) (s : line.Note) (r : Reply) (n : ℕ) → settledIn o (partIn s) ≡ Came r n → about s ≡ ends
-came-ends o line.nothing r n e = clash cc
-came-ends o line.held r n e = clash cc
-came-ends o (line.sent t f) r n e = clash cc
-came-ends o (line.passed f) r n e = clash cc
-came-ends o line.dropped r n e = clash cc
-came-ends o line.accepted r n e = clash cc
-came-ends o (line.exception m) r n e = clash cc
-came-ends o (line.answer f m) r n e = refl
-came-ends o (line.no-answer m) r n e = refl
-came-ends o (line.refused m) r n e = clash cc
+came-ends : (o : Asking) (s : line.Note) (u : ℕ) (r : Reply) (n : ℕ) → settledIn o (partIn s) ≡ Came u r n → about s ≡ ends
+came-ends o line.nothing u r n e = clash cc
+came-ends o line.held u r n e = clash cc
+came-ends o (line.sent t f) u r n e = clash cc
+came-ends o (line.passed f) u r n e = clash cc
+came-ends o line.dropped u r n e = clash cc
+came-ends o line.accepted u r n e = clash cc
+came-ends o (line.exception m) u r n e = clash cc
+came-ends o (line.answer f m) u r n e = refl
+came-ends o (line.no-answer m) u r n e = refl
+came-ends o (line.refused m) u r n e = clash cc
 
 module _ {W : Wrapping} (law : Lawful W) (h : Inputs) where
   -- what can be seen of the box; the events and notes of line k, and demand 3 for it, on its own history
-  abbrev pub seen : View Order
+  abbrev pub seen : View Asking
   seen = boxView W h (given W h)
 
   abbrev pub E : ℕ → Events
@@ -62,16 +63,16 @@ module _ {W : Wrapping} (law : Lawful W) (h : Inputs) where
   unfolding boxAt
   under-next n = refl
 
-  pub same-order : (n : ℕ) (o p : Order) → under n ≡ Waits o → under n ≡ Waits p → p ≡ o
+  pub same-order : (n : ℕ) (o p : Asking) → under n ≡ Waits o → under n ≡ Waits p → p ≡ o
   same-order n o p a b = let e : Waits p ≡ Waits o = sym b ∙ a in cc
 
   -- ---- one input, while the order o is under way and its line gives no outcome
 
-  pub record Keeps (n : ℕ) (o : Order) : Type 0 where
+  pub record Keeps (n : ℕ) (o : Asking) : Type 0 where
     pub still : under (suc n) ≡ Waits o
     pub aside : concernOf (given W h n .told) ≡ nothing
 
-  keeps : (n : ℕ) (o : Order) → under n ≡ Waits o → (about (S (o .line) n) ≡ ends → ⊥) → Keeps n o
+  keeps : (n : ℕ) (o : Asking) → under n ≡ Waits o → (about (S (o .order .line) n) ≡ ends → ⊥) → Keeps n o
   keeps n o was off = go (effect-at law h n)
     where
       go : Effect W (boxAt W h n) (h n) (next W (boxAt W h n) (h n)) (given W h n) → Keeps n o
@@ -79,28 +80,28 @@ module _ {W : Wrapping} (law : Lawful W) (h : Inputs) where
       go (stays same z u) = record { still = under-next n ∙ same ∙ was; aside = z }
       go (finishes p r w was′ is op t wr) =
           let q : p ≡ o = same-order n o p was was′ in
-          let e : settledBy W (boxAt W h n) (h n) (given W h n .told) o ≡ Came r w =
-          subst (λ (x : Order). settledBy W (boxAt W h n) (h n) (given W h n .told) x ≡ Came r w) q op in
+          let e : settledBy W (boxAt W h n) (h n) (given W h n .told) o ≡ Came (p .transaction) r w =
+          subst (λ (x : Asking). settledBy W (boxAt W h n) (h n) (given W h n .told) x ≡ Came (p .transaction) r w) q op in
           absurd
           (off
-          (ap about (note-is W h (named-at law h n o was) n) ∙ came-ends o (noteAt W (boxAt W h n) (o .line) (h n) (given W h n .told)) r w e))
+          (ap about (note-is W h (named-at law h n o was) n) ∙ came-ends o (noteAt W (boxAt W h n) (o .order .line) (h n) (given W h n .told)) (p .transaction) r w e))
 
   -- from acceptance on, as long as its line gives no outcome, the order is under way
-  pub track : (i : ℕ) (o : Order) → under (suc i) ≡ Waits o → (n : ℕ) → i < n → Never (S (o .line)) ends i n → under n ≡ Waits o
+  pub track : (i : ℕ) (o : Asking) → under (suc i) ≡ Waits o → (n : ℕ) → i < n → Never (S (o .order .line)) ends i n → under n ≡ Waits o
   track i o first zero lt nev = absurd (omega arith)
   track i o first (suc m) lt nev = go (last-or i m lt) (track i o first m)
     where
-      go : (i < m) ⊎ (i ≡ m) → (i < m → Never (S (o .line)) ends i m → under m ≡ Waits o) → under (suc m) ≡ Waits o
+      go : (i < m) ⊎ (i ≡ m) → (i < m → Never (S (o .order .line)) ends i m → under m ≡ Waits o) → under (suc m) ≡ Waits o
       go (inl old) before = keeps m o (before old (λ x lo hi on. nev x lo (omega arith) on)) (λ on. nev m old (omega arith) on) .still
       go (inr is) before = subst (λ (x : ℕ). under (suc x) ≡ Waits o) is first
 
   -- and nothing is told of an outcome or of another order
-  pub quiet : (i : ℕ) (o : Order) → under (suc i) ≡ Waits o → (n : ℕ) → Never (S (o .line)) ends i n → (m : ℕ) → i < m → m < n →
+  pub quiet : (i : ℕ) (o : Asking) → under (suc i) ≡ Waits o → (n : ℕ) → Never (S (o .order .line)) ends i n → (m : ℕ) → i < m → m < n →
       concernOf (given W h m .told) ≡ nothing
   quiet i o first n nev m lo hi = keeps m o (track i o first m lo (λ x l g on. nev x l (omega arith) on)) (λ on. nev m lo hi on) .aside
 
   -- and so it is as long as no outcome is told
-  pub lasts : (i : ℕ) (o : Order) → under (suc i) ≡ Waits o → (n : ℕ) → i < n → No (seen .Ends) i n → under n ≡ Waits o
+  pub lasts : (i : ℕ) (o : Asking) → under (suc i) ≡ Waits o → (n : ℕ) → i < n → No (seen .Ends) i n → under n ≡ Waits o
   lasts i o first zero lt none = absurd (omega arith)
   lasts i o first (suc m) lt none = go (last-or i m lt) (lasts i o first m)
     where
@@ -114,11 +115,11 @@ module _ {W : Wrapping} (law : Lawful W) (h : Inputs) where
       go (inr is) before = subst (λ (x : ℕ). under (suc x) ≡ Waits o) is first
 
   -- where the order under way comes from
-  pub record From (n : ℕ) (o : Order) : Type 0 where
+  pub record From (n : ℕ) (o : Asking) : Type 0 where
     pub way : UnderWay seen n
     pub is : way .w ≡ o
 
-  pub source : (n : ℕ) (o : Order) → under n ≡ Waits o → From n o
+  pub source : (n : ℕ) (o : Asking) → under n ≡ Waits o → From n o
   unfolding boxAt
   source zero o e = clash (let z : Nothing ≡ Waits o = e in cc)
   source (suc m) o e = go (effect-at law h m) (source m)
@@ -126,7 +127,7 @@ module _ {W : Wrapping} (law : Lawful W) (h : Inputs) where
       now-is : next W (boxAt W h m) (h m) .asked ≡ Waits o
       now-is = sym (under-next m) ∙ e
 
-      go : Effect W (boxAt W h m) (h m) (next W (boxAt W h m) (h m)) (given W h m) → ((p : Order) → under m ≡ Waits p → From m p) → From (suc m) o
+      go : Effect W (boxAt W h m) (h m) (next W (boxAt W h m) (h m)) (given W h m) → ((p : Asking) → under m ≡ Waits p → From m p) → From (suc m) o
       go (begins p was is ask tl) before =
           record {
             way = record { i = m; w = p; before = omega arith; accepted = record { asked = ask; taken = tl }; waiting = λ x lo hi t. omega arith };

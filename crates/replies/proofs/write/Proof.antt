@@ -1,17 +1,10 @@
--- `replies::write` meets its contract: a small room stays, another holds the reply in front.
+-- `replies::write` meets its contract: a small room stays, another holds the reply in front, in its form.
 -- Assumes nothing.
-use mathlib.Core.Path.{_≡_, sym, ap, _∙_}
-use Prim.Native.Nat.{_≤_}
-use native.Mathlib.Omega.{arith}
-use lib.ListN.{length, take, drop, length-set}
-use lib.Seq.{length-take-le, take-at}
-use denote.Ref.{now}
-use borrow.Author.Tests.{lt-leb}
+use mathlib.Core.Path.{ap}
+use borrow.Author.Tests.{lt-leb, le-leb}
 use borrow.Author.Needs.{needs}
-use Rattle.crc.specs.Crc.{crcOf}
-use Rattle.modbus.specs.Wire.{bodyOf, replyWritten, replyRoom}
-use Rattle.modbus.proofs.Place.{written}
-use Rattle.modbus.proofs.Replies.{short-body}
+use Rattle.modbus.specs.declared.Written.the-variants.{Count}
+use Rattle.modbus.specs.Wrapping.{writes, replyWritten, replyRoom}
 use Rattle.replies.proofs.write.Statement.{statement}
 use Rattle.replies.proofs.write.Tie as tie
 
@@ -19,85 +12,52 @@ returns : tie.Need-returns
 unfolding replyWritten replyRoom
 returns c = (simp (lt-leb _ _ (c .if1 .taken)), simp (lt-leb _ _ (c .if1 .taken)))
 
-put-requires : tie.Need-put-requires
-put-requires c κs = search needs
+enum-told : tie.Need-enum-told
+enum-told c = search needs
 
-slice-reshare-prefix-checksum : tie.Need-slice-reshare-prefix-checksum
-slice-reshare-prefix-checksum c =
-    let p = c .before .before in
-    let s = p .before .before in
-    omega (arith, p .put .ensures .0, short-body (s .before .before .args .r), p .put .kept, s .if1 .left)
+serial-requires : tie.Need-serial-requires
+serial-requires c κs = search needs
 
-slice-aggregate-checksum : tie.Need-slice-aggregate-checksum
-slice-aggregate-checksum c =
-    let p = c .before .before .before in
-    let s = p .before .before in
-    let few : p .put .result ≤ length (p .put .last .1 .0) =
-    omega (arith, p .put .ensures .0, short-body (s .before .before .args .r), p .put .kept, s .if1 .left) in
-    sym (length-take-le (p .put .result) (p .put .last .1 .0) few)
+enum-told-2 : tie.Need-enum-told-2
+enum-told-2 c = search needs
 
-checksum-requires : tie.Need-checksum-requires
-checksum-requires c κs = search needs
-
-low-requires : tie.Need-low-requires
-low-requires c κs = search needs
-
-high-requires : tie.Need-high-requires
-high-requires c κs = search needs
-
-slice-write-room : tie.Need-slice-write-room
-slice-write-room c =
-    let p = c .before .before .before .before .before .before in
-    let s = p .before .before in
-    omega (arith, p .put .ensures .0, short-body (s .before .before .args .r), p .put .kept, s .if1 .left)
-
-add-room : tie.Need-add-room
-add-room c =
-    let p = c .before .before .before .before .before .before in
-    omega (arith, p .put .ensures .0, short-body (p .before .before .before .before .args .r))
-
-slice-write-room-2 : tie.Need-slice-write-room-2
-slice-write-room-2 c =
-    let p = c .before .before .before .before .before .before in
-    let s = p .before .before in
-    simp length-set (omega (arith, p .put .ensures .0, short-body (s .before .before .args .r), p .put .kept, s .if1 .left))
-
-add-t7 : tie.Need-add-t7
-add-t7 c =
-    let p = c .before .before .before .before .before .before in
-    omega (arith, p .put .ensures .0, short-body (p .before .before .before .before .args .r))
+tcp-requires : tie.Need-tcp-requires
+tcp-requires c κs = search needs
 
 same-length : tie.Need-same-length
 same-length c = search needs
 
 returns-2 : tie.Need-returns-2
+unfolding replyWritten replyRoom writes
 returns-2 c =
-    let k = c .before .before in
-    let p = k .before .before .before .before in
-    let s = p .before .before in
-    let a = s .before .before .args in
-    let b = bodyOf (a .r) in
-    let n = p .put .result in
-    let front : take n (p .put .last .1 .0) ≡ b =
-    ap (take n) (p .put .ensures .1) ∙ take-at b (drop (length b) (now (a .room))) n (sym (p .put .ensures .0)) in
-    let big : 16 ≤ length (now (a .room)) = omega (arith, s .if1 .left) in
-    written (a .r) (now (a .room)) (p .put .last .1 .0) n (k .checksum .result) (c .before .low .result) (c .high .result) (p .put .ensures .0)
-    (k .checksum .ensures ∙ ap crcOf front) (c .before .low .ensures) (c .high .ensures) (p .put .ensures .1) big
+    let p = c .before .before in
+    let wide = le-leb _ _ (p .before .before .before .before .if1 .left) in (
+      rw (p .before .before .enum-told .given .1, wide) (ap Count (p .serial .ensures .0)),
+      rw (p .before .before .enum-told .given .1, wide) (p .serial .ensures .1),
+    )
+
+same-length-2 : tie.Need-same-length-2
+same-length-2 c = search needs
+
+returns-3 : tie.Need-returns-3
+unfolding replyWritten replyRoom writes
+returns-3 c =
+    let p = c .before .before in
+    let wide = le-leb _ _ (p .before .before .before .before .if1 .left) in (
+      rw (p .before .before .enum-told2 .given .1, wide) (ap Count (p .tcp .ensures .0)),
+      rw (p .before .before .enum-told2 .given .1, wide) (p .tcp .ensures .1),
+    )
 
 pub write-spec : {M : Type 1} → statement M
 write-spec =
     tie.close
     (tie.spec
     returns
-    put-requires
-    slice-reshare-prefix-checksum
-    slice-aggregate-checksum
-    checksum-requires
-    low-requires
-    high-requires
-    slice-write-room
-    add-room
-    slice-write-room-2
-    add-t7
+    enum-told
+    serial-requires
+    enum-told-2
+    tcp-requires
     same-length
-    returns-2)
+    returns-2
+    same-length-2
+    returns-3)

@@ -1,61 +1,27 @@
--- `requests::request` meets its contract: length, checksum, and then the body.
+-- `requests::request` meets its contract: each form by its own wrapping.
 -- Assumes nothing.
-use native.Mathlib.Omega.{arith}
-use lib.ListN.{length-take}
-use borrow.Author.Tests.{le-leb, lt-leb, not-true, not-false}
 use borrow.Author.Needs.{needs}
-use Rattle.modbus.specs.Wire.{requestOf}
 use Rattle.requests.proofs.request.Statement.{statement}
 use Rattle.requests.proofs.request.Tie as tie
 
+enum-told : tie.Need-enum-told
+enum-told c = search needs
+
+serial-requires : tie.Need-serial-requires
+serial-requires c κs = search needs
+
+enum-told-2 : tie.Need-enum-told-2
+enum-told-2 c = search needs
+
+tcp-requires : tie.Need-tcp-requires
+tcp-requires c κs = search needs
+
 returns : tie.Need-returns
-unfolding requestOf
-returns c = rw (lt-leb _ _ (c .if1 .taken))
+returns c = rw (c .before .enum-told .given .1, ← c .serial .ensures)
 
 returns-2 : tie.Need-returns-2
-unfolding requestOf
-returns-2 c = rw (le-leb _ _ (c .before .if1 .left), lt-leb _ _ (c .if2 .taken))
-
-passes-requires : tie.Need-passes-requires
-passes-requires c κs = search needs
-
-returns-3 : tie.Need-returns-3
-unfolding requestOf
-returns-3 c = rw (
-  le-leb _ _ (c .before .before .before .if1 .left),
-  le-leb _ _ (c .before .before .if2 .left),
-  ← c .before .passes .ensures,
-  not-true (c .before .passes .result) (c .if3 .taken),
-)
-
-sub-n : tie.Need-sub-n
-sub-n c = search needs
-
-slice-aggregate-read : tie.Need-slice-aggregate-read
-slice-aggregate-read c = simp length-take (omega arith)
-
-read-requires : tie.Need-read-requires
-read-requires c κs = search needs
-
-returns-4 : tie.Need-returns-4
-unfolding requestOf
-returns-4 c = rw (
-  le-leb _ _ (c .before .before .before .before .before .if1 .left),
-  le-leb _ _ (c .before .before .before .before .if2 .left),
-  ← c .before .before .before .passes .ensures,
-  not-false (c .before .before .before .passes .result) (c .before .before .if3 .left),
-  ← c .read .ensures,
-)
+returns-2 c = rw (c .before .enum-told2 .given .1, ← c .tcp .ensures)
 
 pub request-spec : {M : Type 1} → statement M
 request-spec =
-    tie.close
-    (tie.spec
-    returns
-    returns-2
-    passes-requires
-    returns-3
-    sub-n
-    slice-aggregate-read
-    read-requires
-    returns-4)
+    tie.close (tie.spec enum-told serial-requires enum-told-2 tcp-requires returns returns-2)

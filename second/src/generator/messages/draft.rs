@@ -1,6 +1,7 @@
 //! A Modbus message in the making: its fields before they are put out.
 
-use crate::modbus::{self, ROWS};
+use super::cover::Cover;
+use crate::modbus::{Wrapping, ROWS};
 use crate::random::Random;
 
 pub struct Draft {
@@ -11,26 +12,20 @@ pub struct Draft {
     /// Registers read and written.
     pub counts: (u16, u16),
     pub byte_count: Option<u8>,
-    /// Registers of data, where they aren't as many as the write count says.
-    pub data: Option<usize>,
+    /// Registers that are there, where they aren't as many as the write count says.
+    pub registers: Option<usize>,
     pub value: u16,
     pub message: u16,
-    /// Bytes added behind the body, or cut off it.
+    /// Bytes added behind the data, or cut off it.
     pub longer: i64,
+    /// Bytes of the whole message, where they aren't what the fields give.
     pub total: Option<usize>,
-    pub checksum: Checksum,
-}
-
-#[derive(Clone, Copy, PartialEq, Eq)]
-pub enum Checksum {
-    Right,
-    Swapped,
-    Wrong,
+    pub cover: Cover,
 }
 
 impl Draft {
     /// A well-formed one for a row, with everything drawn that the row leaves open.
-    pub fn of(random: &mut Random, row: usize, unit: u8, id: u8) -> Draft {
+    pub fn of(random: &mut Random, form: Wrapping, row: usize, unit: u8, id: u8) -> Draft {
         let row = &ROWS[row];
         // Where the row names no page, any high byte is good.
         let page = match row.page {
@@ -45,12 +40,12 @@ impl Draft {
             write_offset: offset,
             counts: row.counts,
             byte_count: None,
-            data: None,
+            registers: None,
             value: random.word() as u16,
             message: row.message,
             longer: 0,
             total: None,
-            checksum: Checksum::Right,
+            cover: Cover::good(random, form),
         };
         // "With one, only that side's offset is looked at": the other side may hold anything.
         if row.function == 0x17 && row.counts == (1, 0) {
@@ -63,32 +58,27 @@ impl Draft {
     }
 
     pub fn bytes(&self, random: &mut Random) -> Vec<u8> {
-        let mut content = vec![self.unit, self.function];
-        content.extend(self.body());
+        let mut body = vec![self.unit, self.function];
+        body.extend(self.data());
         let length = match self.total {
-            Some(total) => total.saturating_sub(2),
-            None => (content.len() as i64 + self.longer) as usize,
+            Some(total) => total.saturating_sub(self.cover.bytes()),
+            None => (body.len() as i64 + self.longer) as usize,
         };
-        while content.len() < length {
-            content.push(random.byte());
+        while body.len() < length {
+            body.push(random.byte());
         }
-        content.truncate(length);
-        let sum = modbus::checksum(&content);
-        content.extend(match self.checksum {
-            Checksum::Right => sum,
-            Checksum::Swapped => [sum[1], sum[0]],
-            Checksum::Wrong => [sum[0] ^ 1 << random.below(8), sum[1]],
-        });
+        body.truncate(length);
+        let mut message = self.cover.around(random, body);
         if let Some(total) = self.total {
-            content.truncate(total);
+            message.truncate(total);
         }
-        content
+        message
     }
 
-    fn body(&self) -> Vec<u8> {
+    fn data(&self) -> Vec<u8> {
         let (read, written) = self.counts;
         // A function that no row has gets the form of 03.
-        let (numbers, has_data) = match self.function & 0x7F {
+        let (numbers, has_registers) = match self.function & 0x7F {
             0x06 => (vec![self.write_offset, self.value], false),
             0x10 => (vec![self.write_offset, written], true),
             0x17 => (
@@ -98,19 +88,19 @@ impl Draft {
             0x41 => (vec![self.read_offset, self.value, self.message], false),
             _ => (vec![self.read_offset, read], false),
         };
-        let mut body: Vec<u8> = numbers.into_iter().flat_map(u16::to_be_bytes).collect();
-        if has_data {
-            self.put_data(&mut body);
+        let mut data: Vec<u8> = numbers.into_iter().flat_map(u16::to_be_bytes).collect();
+        if has_registers {
+            self.put_registers(&mut data);
         }
-        body
+        data
     }
 
     /// The byte count and as many bytes as the write count asks for, up to a few registers.
-    fn put_data(&self, body: &mut Vec<u8>) {
-        let registers = self.data.unwrap_or(usize::from(self.counts.1).min(4));
-        body.push(self.byte_count.unwrap_or(2 * registers as u8));
+    fn put_registers(&self, data: &mut Vec<u8>) {
+        let registers = self.registers.unwrap_or(usize::from(self.counts.1).min(4));
+        data.push(self.byte_count.unwrap_or(2 * registers as u8));
         for _ in 0..registers {
-            body.extend(self.value.to_be_bytes());
+            data.extend(self.value.to_be_bytes());
         }
     }
 }

@@ -38,7 +38,8 @@ impl Script {
 
     /// True where it is accepted.
     pub(super) fn order_on(&mut self, place: usize, plan: Plan, id: u8) -> bool {
-        let message = messages::request(&mut self.random, plan.row, place as u8 + 1, id);
+        let (form, unit) = (self.form(), place as u8 + 1);
+        let message = messages::request(&mut self.random, form, plan.row, unit, id);
         let waited = self.model.gateway.order.is_some();
         self.modbus(&message);
         let accepted = !waited && self.model.gateway.order.is_some();
@@ -49,10 +50,11 @@ impl Script {
     }
 
     pub(super) fn odd_message(&mut self) {
-        let message = if self.random.percent(80) {
-            messages::strange(&mut self.random)
-        } else {
-            messages::of_length(&mut self.random)
+        let form = self.form();
+        let message = match self.random.below(10) {
+            0..=6 => messages::strange(&mut self.random, form),
+            7 | 8 => messages::of_length(&mut self.random, form),
+            _ => messages::of_either_form(&mut self.random, form),
         };
         let waited = self.model.gateway.order.is_some();
         self.modbus(&message);
@@ -72,7 +74,7 @@ impl Script {
         self.say(format!("room {small}").as_bytes());
         for _ in 0..self.random.between(1, 5) {
             let place = self.random.below(4) as usize;
-            match self.random.below(6) {
+            match self.random.below(7) {
                 0 => {
                     let count = self.random.between(1, 4);
                     self.tick(count);
@@ -81,6 +83,7 @@ impl Script {
                 2 => self.boiler(),
                 3 => self.order(),
                 4 => self.odd_message(),
+                5 if self.random.percent(self.fresh_often) => self.new_box(),
                 _ => self.thermostat(),
             }
         }

@@ -121,7 +121,7 @@ impl Script {
     }
 
     /// By one of the rows that send no value.
-    fn ask_status(&mut self, place: usize, id: u8) {
+    pub(super) fn ask_status(&mut self, place: usize, id: u8) {
         let rows: Vec<usize> = (0..ROWS.len())
             .filter(|row| !ROWS[*row].sends_value)
             .collect();

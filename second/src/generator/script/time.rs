@@ -1,7 +1,7 @@
 //! Time in a script: ticks up to the ages where an answer changes, and the longest wait.
 
 use super::{End, Plan, Script, TICKS_AHEAD, TICKS_PER_LINE};
-use crate::generator::strange_lines;
+use crate::generator::{messages, strange_lines};
 use crate::line::{Owner, State};
 use crate::modbus::ROWS;
 use crate::tally::Thing;
@@ -99,6 +99,11 @@ impl Script {
 
     /// A line that ends no talk and takes no order.
     pub(super) fn harmless(&mut self) {
+        if self.random.percent(30) {
+            let form = self.form();
+            let message = messages::version_request(&mut self.random, form);
+            return self.modbus(&message);
+        }
         let line = match self.random.below(6) {
             0 => b"thermostat 009 80190000 018 0023".to_vec(),
             1 => b"boiler 1 00190000 255 0".to_vec(),

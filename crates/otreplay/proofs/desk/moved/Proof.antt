@@ -31,6 +31,18 @@ slice-aggregate-message c = sym (length-take-le _ _ (omega arith))
 message-requires : tie.Need-message-requires
 message-requires c κs = search needs
 
+enum-known-e-4 : tie.Need-enum-known-e-4
+enum-known-e-4 c = search needs
+
+fresh-requires : tie.Need-fresh-requires
+fresh-requires c κs = search needs
+
+untold-requires : tie.Need-untold-requires
+untold-requires c κs = search needs
+
+untold-requires-2 : tie.Need-untold-requires-2
+untold-requires-2 c κs = search needs
+
 returns : tie.Need-returns
 returns c = search needs
 
@@ -49,6 +61,9 @@ returns-3 c = search needs
 returns-4 : tie.Need-returns-4
 returns-4 c = search needs
 
+returns-5 : tie.Need-returns-5
+returns-5 c = search needs
+
 pub moved-spec : {M : Type 1} → statement M
 moved-spec =
     tie.close
@@ -61,9 +76,14 @@ moved-spec =
     at-most-requires
     slice-aggregate-message
     message-requires
+    enum-known-e-4
+    fresh-requires
+    untold-requires
+    untold-requires-2
     returns
     same-length
     returns-2
     same-length-2
     returns-3
-    returns-4)
+    returns-4
+    returns-5)
