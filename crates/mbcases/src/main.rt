@@ -101,13 +101,13 @@ fn order(e: Envelope, o: Order) {
 fn envelope_of(form: MessageForm, s: &[u8]) -> Envelope {
     Envelope {
         form: form,
-        transaction: requests::transaction(form, s),
+        transaction: messages::transaction(form, s),
     }
 }
 
 fn message(form: MessageForm, s: &[u8]) {
     let e = envelope_of(form, s);
-    match requests::request(form, s) {
+    match messages::request(form, s) {
         Reading::Silent(n) => {
             say(b"silent ");
             io::print_decimal(STDOUT_FILENO, n as u64);
@@ -147,7 +147,7 @@ fn roomed(e: Envelope, r: Reply, n: usize) {
 
 fn rooms(form: MessageForm, s: &[u8]) {
     let e = envelope_of(form, s);
-    match requests::request(form, s) {
+    match messages::request(form, s) {
         Reading::AtOnce(r) => {
             roomed(e, r, 15);
             roomed(e, r, 16);

@@ -2,13 +2,8 @@
 -- Assumes nothing.
 use mathlib.Core.Path.{sym, _∙_}
 use Rattle.word.proofs.One.{One}
-use Rattle.requests.proofs.request.Reads as request-reads
-use Rattle.requests.proofs.request.Kinds as request-kinds
-use Rattle.requests.proofs.transaction.Reads as transaction-reads
-use Rattle.requests.proofs.transaction.Kinds as transaction-kinds
+use Rattle.requests.proofs.read.Reads as read-reads
+use Rattle.requests.proofs.read.Kinds as read-kinds
 
-pub request-one : One request-kinds.ps request-kinds.r request-reads.Post
-request-one κs a u v x y p q = p ∙ sym q
-
-pub transaction-one : One transaction-kinds.ps transaction-kinds.r transaction-reads.Post
-transaction-one κs a u v x y p q = p ∙ sym q
+pub read-one : One read-kinds.ps read-kinds.r read-reads.Post
+read-one κs a u v x y p q = p ∙ sym q

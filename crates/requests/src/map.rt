@@ -1,9 +1,6 @@
-// From the body of a message, in any wrapping, to its answer: 01's checks in 01's order.
-use crate::functions::served;
+// From the fields of a request to its answer: unit 5's, or what the rows say.
 use crate::rows::find;
 use crate::rows::offset;
-use crate::shape::formed;
-use crate::shape::says;
 use modbus::Order;
 use modbus::Question;
 use modbus::QuestionType;
@@ -14,9 +11,8 @@ use modbus::rows::Found;
 use modbus::rows::Naming;
 use modbus::rows::Row;
 use modbus::shape::Fields;
-use places::byte_at;
 ghost use mathlib.Core.Path.{_≡_};
-ghost use Rattle.modbus.specs.Mapping.{byMessage, typeFrom, aloneBy, unlikeOf, atOnce, asOrder, askOf, ownOf, mappedOf, bodyRead};
+ghost use Rattle.modbus.specs.Mapping.{byMessage, typeFrom, aloneBy, unlikeOf, atOnce, asOrder, askOf, ownOf, mappedOf};
 
 fn by_message(m: u16) -> Naming
     ensures { λ r. ⌜ r ≡ byMessage m ⌝ }
@@ -85,7 +81,7 @@ fn ask(unit: u8, a: Fields, r: Row) -> Reading
     }
 }
 
-fn at_once(unit: u8, function: u8, code: u8) -> Reading
+pub(crate) fn at_once(unit: u8, function: u8, code: u8) -> Reading
     ensures { λ q. ⌜ q ≡ atOnce unit function code ⌝ }
 {
     Reading::AtOnce(Reply::Exception(unit, function, code))
@@ -104,7 +100,7 @@ fn unlike(a: Fields) -> bool
     a.from != a.to
 }
 
-fn mapped(unit: u8, a: Fields) -> Reading
+pub(crate) fn mapped(unit: u8, a: Fields) -> Reading
     ensures { λ q. ⌜ q ≡ mappedOf unit a ⌝ }
 {
     if unlike(a) {
@@ -117,7 +113,7 @@ fn mapped(unit: u8, a: Fields) -> Reading
 }
 
 // Unit 5 has one register to read, the version, and none to write.
-fn own(a: Fields) -> Reading
+pub(crate) fn own(a: Fields) -> Reading
     ensures { λ q. ⌜ q ≡ ownOf a ⌝ }
 {
     if a.reads != 1 {
@@ -127,30 +123,4 @@ fn own(a: Fields) -> Reading
         return at_once(5, a.function, 0x02);
     }
     Reading::AtOnce(Reply::Value(5, a.function, 0x0100))
-}
-
-pub(crate) fn read(b: &[u8]) -> Reading
-    ensures { λ q. ⌜ q ≡ bodyRead (now (b .entry)) ⌝ }
-{
-    let unit = byte_at(b, 0);
-    let function = byte_at(b, 1);
-    if unit < 1 {
-        return Reading::Silent(13);
-    }
-    if 5 < unit {
-        return Reading::Silent(13);
-    }
-    if 0x80 <= function {
-        return Reading::Silent(14);
-    }
-    if !served(unit, function) {
-        return at_once(unit, function, 0x01);
-    }
-    if !formed(function, b) {
-        return at_once(unit, function, 0x03);
-    }
-    if unit == 5 {
-        return own(says(function, b));
-    }
-    mapped(unit, says(function, b))
 }

@@ -1,10 +1,10 @@
--- `requests::map::read` meets its contract: a return for each of the checks, in their order.
+-- `requests::read` meets its contract: a return for each of the checks, in their order.
 -- Assumes nothing.
 use borrow.Author.Tests.{eq-eqb, ne-eqb, le-leb, lt-leb, le-ltb, lt-ltb, not-true, not-false}
 use borrow.Author.Needs.{needs}
 use Rattle.modbus.specs.Mapping.{bodyRead}
-use Rattle.requests.proofs.map.read.Statement.{statement}
-use Rattle.requests.proofs.map.read.Tie as tie
+use Rattle.requests.proofs.read.Statement.{statement}
+use Rattle.requests.proofs.read.Tie as tie
 
 byte-at-requires : tie.Need-byte-at-requires
 byte-at-requires c κs = search needs

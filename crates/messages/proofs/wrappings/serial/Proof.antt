@@ -1,12 +1,12 @@
--- `requests::wrappings::serial` meets its contract: length, checksum, and then the body.
+-- `messages::wrappings::serial` meets its contract: length, checksum, and then the body.
 -- Assumes nothing.
 use native.Mathlib.Omega.{arith}
 use lib.ListN.{length-take}
 use borrow.Author.Tests.{le-leb, lt-leb, not-true, not-false}
 use borrow.Author.Needs.{needs}
 use Rattle.modbus.specs.Wrapping.{reads}
-use Rattle.requests.proofs.wrappings.serial.Statement.{statement}
-use Rattle.requests.proofs.wrappings.serial.Tie as tie
+use Rattle.messages.proofs.wrappings.serial.Statement.{statement}
+use Rattle.messages.proofs.wrappings.serial.Tie as tie
 
 returns : tie.Need-returns
 unfolding reads

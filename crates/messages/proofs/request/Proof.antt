@@ -1,8 +1,8 @@
--- `requests::request` meets its contract: each form by its own wrapping.
+-- `messages::request` meets its contract: each form by its own wrapping.
 -- Assumes nothing.
 use borrow.Author.Needs.{needs}
-use Rattle.requests.proofs.request.Statement.{statement}
-use Rattle.requests.proofs.request.Tie as tie
+use Rattle.messages.proofs.request.Statement.{statement}
+use Rattle.messages.proofs.request.Tie as tie
 
 enum-told : tie.Need-enum-told
 enum-told c = search needs

@@ -1,4 +1,4 @@
--- `requests::wrappings::tcp` meets its contract: length, protocol, the length field, and then the body.
+-- `messages::wrappings::tcp` meets its contract: length, protocol, the length field, and then the body.
 -- Assumes nothing.
 use mathlib.Core.Path.{ap, _∙_}
 use denote.Ref.{now}
@@ -7,8 +7,8 @@ use borrow.Author.Needs.{needs}
 use Rattle.modbus.specs.Mapping.{bodyRead}
 use Rattle.modbus.specs.Wrapping.{reads}
 use Rattle.modbus.proofs.Place.{rest}
-use Rattle.requests.proofs.wrappings.tcp.Statement.{statement}
-use Rattle.requests.proofs.wrappings.tcp.Tie as tie
+use Rattle.messages.proofs.wrappings.tcp.Statement.{statement}
+use Rattle.messages.proofs.wrappings.tcp.Tie as tie
 
 returns : tie.Need-returns
 unfolding reads

@@ -1,7 +1,7 @@
 // What becomes of a message in each of the two wrappings: their own checks, and then what its body says.
-use crate::map::read;
 use modbus::Reading;
 use places::pair_at;
+use requests::read;
 ghost use mathlib.Core.Path.{_≡_};
 ghost use Rattle.modbus.specs.Wrapping.{serial, tcp, reads};
 

@@ -1,8 +1,8 @@
--- `requests::transaction` meets its contract: the first two bytes, and none of a serial message.
+-- `messages::transaction` meets its contract: the first two bytes, and none of a serial message.
 -- Assumes nothing.
 use borrow.Author.Needs.{needs}
-use Rattle.requests.proofs.transaction.Statement.{statement}
-use Rattle.requests.proofs.transaction.Tie as tie
+use Rattle.messages.proofs.transaction.Statement.{statement}
+use Rattle.messages.proofs.transaction.Tie as tie
 
 enum-told : tie.Need-enum-told
 enum-told c = search needs
