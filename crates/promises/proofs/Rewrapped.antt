@@ -1,15 +1,14 @@
 -- Two boxes of two lawful wrappings, to which the same comes up to its wrapping, give the same up to its wrapping: they stay the same but for the
 -- transaction of the order under way.
 -- Assumes nothing.
-use Prim.Native.Nat.{ℕ, zero, suc, _≤_}
-use mathlib.Core.Path.{_≡_, refl, sym, ap, _∙_, subst}
-use mathlib.Core.Logic.{_⊎_, inl, inr}
+use Prim.Native.Nat.{ℕ, zero, suc}
+use mathlib.Core.Path.{_≡_, refl, sym, _∙_, subst}
+use mathlib.Core.Logic.{inl, inr}
 use mathlib.Core.Bool.{Bool, true, false, cond}
 use mathlib.Core.List.{List, []}
 use lib.Dec.{eqb, leb}
 use lib.ListN.{length}
 use borrow.Author.Tests.{leb-true, leb-false}
-use native.Mathlib.Omega.{arith}
 use Rattle.word.specs.declared.Frame.{Frame}
 use Rattle.turns.specs.Events.{noteOf}
 use Rattle.turns.specs.Line.{Step}
@@ -35,8 +34,8 @@ use Rattle.promises.specs.Parts.{Part, nothing, goes, tells, takes, exce
 use Rattle.promises.specs.Four.{insideOf, ticksOf, saidOf}
 use Rattle.promises.specs.Settle.{settledIn, settledOf, afterTick, afterBoiler, stillOf, plainOf, tellOf, writesOf}
 use Rattle.promises.specs.Entries.{Does, gives, tickOf, thermostatOf, boilerStep, boilerOf, takenOf, replied, askedOf, lackOf, asksOf, readOf, messageOf}
-use Rattle.promises.specs.Inputs.{Input, tick, thermostat, boiler, message, Inputs, Gift}
-use Rattle.promises.specs.History.{next, outAt, nowhere, giftOf, boxAt, given}
+use Rattle.promises.specs.Inputs.{Input, message, Inputs, Gift}
+use Rattle.promises.specs.History.{next, giftOf, boxAt, given}
 use Rattle.promises.specs.Rewrapped.{SameInput, ticks, thermostats, boilers, messages, SameInputs, uncounted, SameSaid, Rewrapped}
 use Rattle.promises.proofs.Carried.{tickGift, moveGift, either}
 

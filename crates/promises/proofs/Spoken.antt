@@ -8,7 +8,6 @@ use mathlib.Core.Bool.{true, false}
 use mathlib.Core.List.{List}
 use native.Mathlib.Omega.{arith}
 use lib.Dec.{lit<}
-use Rattle.word.proofs.Clash.{clash}
 use Rattle.word.specs.declared.Frame.{Frame}
 use Rattle.word.specs.Frame.{typeOf, idOf, valueOf, matchesOf}
 use Rattle.word.specs.Fields.{BuiltFrom}
@@ -27,7 +26,7 @@ use Rattle.modbus.specs.declared.QuestionType.the-variants.{ReadData}
 use Rattle.modbus.specs.declared.Reading.the-variants.{Accepted}
 use Rattle.modbus.specs.Mapping.{typeNumber, wordOf}
 use Rattle.modbus.specs.Numbers.{readingVerdict}
-use Rattle.modbus.specs.declared.Outcome.the-variants.{Answer, NoAnswer}
+use Rattle.modbus.specs.declared.Outcome.the-variants.{Answer}
 use Rattle.modbus.specs.Outcomes.{answerOf}
 use Rattle.modbus.specs.Replied.{ReplyBodies, repliesTo}
 use Rattle.modbus.specs.Wire.{bodyOf}

@@ -6,7 +6,6 @@ use mathlib.Core.Bool.{Bool, true, false}
 use lib.ListN.{length}
 use Rattle.word.proofs.Clash.{clash}
 use Rattle.turns.specs.Line.{Line}
-use Rattle.turns.specs.declared.Query.{Query}
 use Rattle.turns.specs.declared.Talker.the-variants.{Thermostat}
 use Rattle.turns.specs.Status.{lacksOf}
 use Rattle.turns.specs.Events as line
@@ -20,9 +19,8 @@ use Rattle.modbus.specs.Wrapping.{Wrapping, writes}
 use Rattle.modbus.specs.Lawful.{Lawful}
 use Rattle.promises.specs.declared.Asking.{Asking}
 use Rattle.promises.specs.Box.{Gateway, Moved}
-use Rattle.promises.specs.Notes.{BoxNote, accepted, reply, boxNoteOf, goneOf}
+use Rattle.promises.specs.Notes.{accepted, reply, boxNoteOf, goneOf}
 use Rattle.promises.specs.Parts.{partIn, outIn}
-use Rattle.promises.specs.Four.{lineOf}
 use Rattle.promises.specs.Settle.{questionOf}
 use Rattle.promises.specs.Entries.{Does, replied, readOf, lackOf}
 use Rattle.promises.specs.Inputs.{Input, Inputs, Four}
