@@ -1,6 +1,6 @@
 # Lays a script's comments beside its trace, and says in words what a line of the trace means.
 # usage: ./run otreplay <SCRIPT | awk -f examples/explain.awk docs/registers.csv SCRIPT -
-# A comment is printed before the first line of the trace that is as late as it.
+# A comment is printed before the first line of the trace that is as late as it. A script with `fresh tcp` is one of a TCP box from its beginning.
 # What a value is depends on its id: docs/registers.csv has each id's kind and name. No unit is said: a real may be degrees, bar or percent.
 
 BEGIN {
@@ -23,6 +23,8 @@ BEGIN {
     refusal[14] = "silence: a function of 80 or more"
     refusal[15] = "too small a room for a reply"
     refusal[16] = "damaged: a spare bit is set"
+    refusal[17] = "silence: a message's protocol"
+    refusal[18] = "silence: a message's length field"
 }
 
 function number(hex, n, i) {
@@ -76,6 +78,10 @@ function reply(bytes, outcome, unit, code, id) {
     return value(id, substr(bytes, 7, 4))
 }
 
+function replied(body, outcome) {
+    return (tcp ? "transaction " substr($3, 1, 4) ", " : "") "unit " number(substr(body, 1, 2)) ": " reply(body, outcome)
+}
+
 # How straight the edges of a frame were, where it was read from samples.
 function straight() { return NF > 5 ? "; its edges " $5 " to " $6 " samples apart" : "" }
 
@@ -86,7 +92,7 @@ function meaning() {
     if ($2 == "accepted") return "the question for unit " $3 " is taken"
     if ($2 == "held") return "the thermostat's frame waits for its turn"
     if ($2 == "dropped") return "nobody wants this answer any more"
-    if ($2 == "reply") return "unit " number(substr($3, 1, 2)) ": " reply($3, $4 == "wait") ($4 == "wait" ? ", after " $5 " ms" : "")
+    if ($2 == "reply") return replied(tcp ? substr($3, 13) : $3, $4 == "wait") ($4 == "wait" ? ", after " $5 " ms" : "")
     if ($2 == "refused") return refusal[$3]
     return ""
 }
@@ -102,6 +108,7 @@ file == 1 {
 }
 file == 2 && /^#/ { at[++comments] = time; text[comments] = $0 }
 file == 2 && /^tick / { time += $2 }
+file == 2 && /^fresh tcp$/ { tcp = 1 }
 file == 2 { next }
 $2 == "sent" { asked[$3] = $4 }
 {
@@ -110,6 +117,6 @@ $2 == "sent" { asked[$3] = $4 }
         if (shown == 1 || at[shown] != at[shown - 1]) print ""
         print text[shown]
     }
-    printf "%8s  %-36s %s\n", $1, substr($0, length($1) + 2), meaning()
+    printf tcp ? "%8s  %-41s %s\n" : "%8s  %-36s %s\n", $1, substr($0, length($1) + 2), meaning()
 }
 END { while (shown < comments) print text[++shown] }
