@@ -56,7 +56,7 @@ broken s off = go (passesOf s) refl
     go false e = e
 
 -- the header of a body of at most 254 bytes
-head : (t : ℕ) (b : List ℕ) (high low : ℕ) → low < 256 → t ≡ high * 256 + low → length b ≤ 254 →
+pub head : (t : ℕ) (b : List ℕ) (high low : ℕ) → low < 256 → t ≡ high * 256 + low → length b ≤ 254 →
     headed t b ≡ high ∷ low ∷ 0 ∷ 0 ∷ 0 ∷ length b ∷ b
 unfolding pairAt
 head t b high low small is upto =
@@ -72,7 +72,7 @@ module _ (s : List ℕ) (h : Bytes s) where
   unfolding pairAt
   protocol-is e = (omega arith, omega arith)
 
-  two-bytes : pairAt s 0 ≡ getD s 0 0 * 256 + getD s 1 0
+  pub two-bytes : pairAt s 0 ≡ getD s 0 0 * 256 + getD s 1 0
   unfolding pairAt
   two-bytes = refl
 

@@ -18,5 +18,6 @@ pub mod Apart
 pub mod Total
 pub mod Becomes
 pub mod Arrives
+pub mod Departs
 pub mod Sent
 pub mod Answered

@@ -6,7 +6,6 @@ use mathlib.Core.Path.{_≡_}
 use mathlib.Core.Logic.{_⊎_}
 use mathlib.Core.List.{List}
 use lib.ListN.{getD}
-use Rattle.modbus.specs.Shape.{unitOf, functionOf}
 use Rattle.modbus.specs.Numbers.{Verdict, refused, exception, two-value}
 use Rattle.modbus.specs.Table.{Request, Fits, bodyOfRequest, askedBy, read-one, write-06, write-10, read-17, write-17, both-17, say-41}
 
@@ -16,9 +15,9 @@ Bytes s = (k : ℕ) → getD s k 0 < 256
 
 -- "unit 1 to 5; function below 80"
 pub record Addressed (b : List ℕ) : Type 0 where
-  pub from : 1 ≤ unitOf b
-  pub upto : unitOf b ≤ 5
-  pub below : functionOf b < 0x80
+  pub from : 1 ≤ getD b 0 0
+  pub upto : getD b 0 0 ≤ 5
+  pub below : getD b 1 0 < 0x80
 
 -- the functions that are served: "Unit 5 serves 03, 04, 06, 10", the lines' units all of the table
 pub data Serves (u : ℕ) : ℕ → Type 0 where
@@ -45,13 +44,13 @@ abbrev pub Line : ℕ → Type 0
 Line u = (1 ≤ u) × (u ≤ 4)
 
 pub data Becomes (b : List ℕ) : Verdict → Type 0 where
-  other-unit : (unitOf b < 1) ⊎ (5 < unitOf b) → Becomes b (refused 13)
-  high-function : 1 ≤ unitOf b → unitOf b ≤ 5 → 0x80 ≤ functionOf b → Becomes b (refused 14)
+  other-unit : (getD b 0 0 < 1) ⊎ (5 < getD b 0 0) → Becomes b (refused 13)
+  high-function : 1 ≤ getD b 0 0 → getD b 0 0 ≤ 5 → 0x80 ≤ getD b 1 0 → Becomes b (refused 14)
   -- "function served (else exception 01)"
-  not-served : Addressed b → (Serves (unitOf b) (functionOf b) → ⊥) → Becomes b (exception (unitOf b) (functionOf b) 0x01)
+  not-served : Addressed b → (Serves (getD b 0 0) (getD b 1 0) → ⊥) → Becomes b (exception (getD b 0 0) (getD b 1 0) 0x01)
   -- "exact length and byte count, then counts (03)"
-  not-spelled : Addressed b → Serves (unitOf b) (functionOf b) → (Spelled (unitOf b) b (functionOf b) → ⊥) →
-      Becomes b (exception (unitOf b) (functionOf b) 0x03)
+  not-spelled : Addressed b → Serves (getD b 0 0) (getD b 1 0) → (Spelled (getD b 0 0) b (getD b 1 0) → ⊥) →
+      Becomes b (exception (getD b 0 0) (getD b 1 0) 0x03)
   -- "offset (02)": "For 17 with both, the two offsets are equal (else 02)"
   unlike : (u r w v : ℕ) → Line u → b ≡ both-17 u r w v → (r ≡ w → ⊥) → Becomes b (exception u 0x17 0x02)
   -- "Offsets that the 17 rows don't name are 02"
