@@ -1,15 +1,13 @@
 -- What is written for a message is its reply's body in the message's own form (specs/Departs), for every message of bytes.
 -- Assumes nothing.
-use Prim.Native.Nat.{ℕ, _+_, _*_, _≤_}
-use mathlib.Core.Path.{_≡_, refl, sym, ap, _∙_}
-use mathlib.Core.List.{List, [], _∷_}
+use Prim.Native.Nat.{ℕ, _≤_}
+use mathlib.Core.Path.{_≡_, refl, sym, _∙_}
+use mathlib.Core.List.{List}
 use native.Mathlib.Omega.{arith}
 use lib.ListN.{length, getD}
-use Rattle.places.specs.Bytes.{pair}
 use Rattle.modbus.specs.declared.MessageForm.{MessageForm}
 use Rattle.modbus.specs.declared.MessageForm.the-variants.{Serial, Tcp}
 use Rattle.modbus.specs.declared.Reply.{Reply}
-use Rattle.modbus.specs.declared.Reply.the-variants.{Value}
 use Rattle.modbus.specs.Becomes.{Bytes}
 use Rattle.modbus.specs.Wire.{bodyOf}
 use Rattle.modbus.specs.Wrapping.{wrappingOf, writes}

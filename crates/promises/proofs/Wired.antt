@@ -3,12 +3,11 @@
 use Prim.Native.Nat.{ℕ}
 use mathlib.Core.Path.{_≡_, refl, ap, _∙_, subst}
 use mathlib.Core.List.{List}
-use lib.ListN.{length}
 use Rattle.modbus.specs.declared.MessageForm.{MessageForm}
 use Rattle.modbus.specs.declared.Reading.the-variants as reading
 use Rattle.modbus.specs.declared.Reply.{Reply}
 use Rattle.modbus.specs.declared.Reply.the-variants.{Exception, Value}
-use Rattle.modbus.specs.Numbers.{Verdict, replyVerdict}
+use Rattle.modbus.specs.Numbers.{replyVerdict}
 use Rattle.modbus.specs.Becomes.{Bytes}
 use Rattle.modbus.specs.Arrives.{Arrives}
 use Rattle.modbus.specs.Departs.{inForm}
