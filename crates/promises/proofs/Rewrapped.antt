@@ -37,7 +37,7 @@ use Rattle.promises.specs.Entries.{Does, gives, tickOf, thermostatOf, bo
 use Rattle.promises.specs.Inputs.{Input, message, Inputs, Gift}
 use Rattle.promises.specs.History.{next, giftOf, boxAt, given}
 use Rattle.promises.specs.Rewrapped.{SameInput, ticks, thermostats, boilers, messages, SameInputs, uncounted, SameSaid, Rewrapped}
-use Rattle.promises.proofs.Carried.{tickGift, moveGift, either}
+use Rattle.promises.proofs.Unjudged.{tickGift, moveGift, either}
 
 -- the same order under way, or none, and what has become of it
 data SameAsked : Asked → Asked → Type 0 where
