@@ -109,7 +109,8 @@ pub record NoStatus (s : Gifts) (k : ℕ) (r : Request) : Type 0 where
   pub asks : AsksStatus r
   pub never : (m : ℕ) (f : Frame) → m < k → Shows (outsOn s (r .unit)) (idIn r) m f → ⊥
 
--- the request r came as input i with the transaction t, was accepted, and has no outcome before input n
+-- the request r came as input i with the transaction t, was accepted, and has no outcome before input n. (In the serial form every t will do: its bytes have
+-- none.)
 pub record RequestWaits (W : Wrapping) (h : Inputs) (s : Gifts) (n : ℕ) : Type 0 where
   pub r : Request
   pub t : ℕ
