@@ -1,5 +1,5 @@
 //! Runs both programs on the same random input, stops at the first difference, and says at the end
-//! what was tried.
+//! what was tried and, as a hash, what each side wrote.
 
 use std::time::Duration;
 
@@ -12,6 +12,7 @@ use crate::report::{input_text, report};
 use crate::shrink;
 use crate::tally::{Spare, Tally, Thing};
 use crate::vectors;
+use crate::written::Written;
 
 /// A run on a shortened input; one that takes longer counts as a difference.
 const LONGEST_TRY: Duration = Duration::from_secs(10);
@@ -41,10 +42,12 @@ pub fn compare(seed: u64, rounds: u64) -> bool {
         return false;
     }
     let mut tally = Tally::default();
+    let mut written = Written::default();
     for round in 1..=rounds {
         for (place, name) in NAMES.into_iter().enumerate() {
             let seed = random::derive(seed, round, place as u64);
-            if !compare_one(&ours, name, seed, size(name, round), &mut tally) {
+            let size = size(name, round);
+            if !compare_one(&ours, name, seed, size, &mut tally, &mut written) {
                 return false;
             }
         }
@@ -55,17 +58,26 @@ pub fn compare(seed: u64, rounds: u64) -> bool {
     for name in &missing {
         println!("NEVER TRIED: {name}");
     }
-    let vectors_good = compare_vectors(&ours);
+    let vectors_good = compare_vectors(&ours, &mut written);
     if missing.is_empty() && vectors_good {
         println!("equal: seed {seed}, {rounds} rounds");
+        println!("written: {written}");
     }
     missing.is_empty() && vectors_good
 }
 
-fn compare_one(ours: &Ours, name: Name, seed: u64, size: usize, tally: &mut Tally) -> bool {
+fn compare_one(
+    ours: &Ours,
+    name: Name,
+    seed: u64,
+    size: usize,
+    tally: &mut Tally,
+    written: &mut Written,
+) -> bool {
     let input = generator::generate(name, seed, size);
     let own = own_output(name, &input, tally);
     let given = ours.run(name, &input, LONGEST_RUN);
+    written.add(&given, &own);
     if given.as_ref() == Ok(&own) {
         return true;
     }
@@ -121,7 +133,7 @@ fn own_output(name: Name, input: &[u8], tally: &mut Tally) -> Vec<u8> {
 }
 
 /// Both programs are held to the outputs written down by hand.
-fn compare_vectors(ours: &Ours) -> bool {
+fn compare_vectors(ours: &Ours, written: &mut Written) -> bool {
     let vectors = vectors::all();
     let mut good = true;
     for vector in &vectors {
@@ -133,6 +145,7 @@ fn compare_vectors(ours: &Ours) -> bool {
             good = false;
         }
         let given = ours.run(vector.name, &vector.input, LONGEST_RUN);
+        written.add(&given, &own);
         if given.as_ref() != Ok(&vector.expected) {
             println!("\nDIFFERENCE from the fixed vector '{}'", vector.title);
             println!("{}", input_text(vector.name, &vector.input));

@@ -28,6 +28,7 @@ mod ours;
 mod report;
 mod shrink;
 mod tally;
+mod written;
 
 #[cfg(test)]
 mod tests;
