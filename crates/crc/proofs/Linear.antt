@@ -1,12 +1,11 @@
--- A bit of the checksum is linear in xor, so k bits of a number are what stands above its k low digits, xored with the k bits of those.
+-- The bits of the checksum are linear in xor: those of two registers that are xored are theirs, xored.
 -- Assumes nothing.
 use mathlib.Core.Path.{_≡_, refl, sym, ap, ap₂, _∙_}
 use Prim.Native.Nat.{ℕ, zero, suc, _+_, _*_, _/_, _%_, _^_, _<_}
 use native.Mathlib.Nat.{mod-lt, mul-one}
 use native.Mathlib.Omega.{arith}
 use lib.Arith.{bin-ind, digits-div, digits-mod}
-use lib.Pow.{split, pow-pos}
-use lib.Bits.{bitXor, differ, xor-step, xor-zero-r, xor-shifted, shifted-half, shifted-even, xor-comm}
+use lib.Bits.{bitXor, differ, xor-step, xor-zero-r, shifted-half, shifted-even, xor-comm}
 use Rattle.word.proofs.Parity.{two-pos, differ-lt}
 use Rattle.crc.specs.Crc.{crcBit, crcBits}
 
@@ -20,10 +19,10 @@ differ-assoc (suc zero) (suc (suc y)) z a b c = omega arith
 differ-assoc (suc (suc x)) y z a b c = omega arith
 
 -- the last digit, and what stands above it
-pub low : (a b : ℕ) → bitXor a b % 2 ≡ differ (a % 2) (b % 2)
+low : (a b : ℕ) → bitXor a b % 2 ≡ differ (a % 2) (b % 2)
 low a b = ap (λ (x : ℕ). x % 2) (xor-step a b) ∙ digits-mod (bitXor (a / 2) (b / 2)) (differ-lt (a % 2) (b % 2) (mod-lt a two-pos) (mod-lt b two-pos))
 
-pub high : (a b : ℕ) → bitXor a b / 2 ≡ bitXor (a / 2) (b / 2)
+high : (a b : ℕ) → bitXor a b / 2 ≡ bitXor (a / 2) (b / 2)
 high a b = ap (λ (x : ℕ). x / 2) (xor-step a b) ∙ digits-div (bitXor (a / 2) (b / 2)) (differ-lt (a % 2) (b % 2) (mod-lt a two-pos) (mod-lt b two-pos))
 
 pub xor-assoc : (a b c : ℕ) → bitXor (bitXor a b) c ≡ bitXor a (bitXor b c)
@@ -43,18 +42,22 @@ swap a b c d =
     ∙ ap (bitXor a) (sym (xor-assoc b c d) ∙ ap (λ (x : ℕ). bitXor x d) (xor-comm b c) ∙ xor-assoc c b d)
     ∙ sym (xor-assoc a c (bitXor b d))
 
-feed : (x y : ℕ) → x < 2 → y < 2 → differ x y * 0xa001 ≡ bitXor (x * 0xa001) (y * 0xa001)
+-- what the rest is xored with for a digit that goes out
+abbrev pub back : ℕ → ℕ
+back y = y * 0xa001
+
+feed : (x y : ℕ) → x < 2 → y < 2 → back (differ x y) ≡ bitXor (back x) (back y)
 feed zero y a b = refl
 feed (suc zero) zero a b = refl
 feed (suc zero) (suc zero) a b = refl
 feed (suc (suc x)) y a b = absurd (omega arith)
 feed (suc zero) (suc (suc y)) a b = absurd (omega arith)
 
-pub bit-linear : (a b : ℕ) → crcBit (bitXor a b) ≡ bitXor (crcBit a) (crcBit b)
+bit-linear : (a b : ℕ) → crcBit (bitXor a b) ≡ bitXor (crcBit a) (crcBit b)
 bit-linear a b =
-    ap₂ (λ (x y : ℕ). bitXor x (y * 0xa001)) (high a b) (low a b)
+    ap₂ (λ (x y : ℕ). bitXor x (back y)) (high a b) (low a b)
     ∙ ap (bitXor (bitXor (a / 2) (b / 2))) (feed (a % 2) (b % 2) (mod-lt a two-pos) (mod-lt b two-pos))
-    ∙ swap (a / 2) (b / 2) (a % 2 * 0xa001) (b % 2 * 0xa001)
+    ∙ swap (a / 2) (b / 2) (back (a % 2)) (back (b % 2))
 
 pub linear : (k a b : ℕ) → crcBits k (bitXor a b) ≡ bitXor (crcBits k a) (crcBits k b)
 unfolding crcBits
@@ -67,11 +70,5 @@ unfolding crcBits
 shifts zero a = mul-one a
 shifts (suc k) a =
     ap (crcBits k)
-    (ap₂ (λ (x y : ℕ). bitXor x (y * 0xa001)) (shifted-half a k) (shifted-even a k) ∙ xor-zero-r (a * 2 ^ k))
+    (ap₂ (λ (x y : ℕ). bitXor x (back y)) (shifted-half a k) (shifted-even a k) ∙ xor-zero-r (a * 2 ^ k))
     ∙ shifts k a
-
-pub by-parts : (k x : ℕ) → crcBits k x ≡ bitXor (x / 2 ^ k) (crcBits k (x % 2 ^ k))
-by-parts k x =
-    ap (crcBits k) (sym (split x k) ∙ sym (xor-shifted (x / 2 ^ k) k (x % 2 ^ k) (mod-lt x (pow-pos k))))
-    ∙ linear k (x / 2 ^ k * 2 ^ k) (x % 2 ^ k)
-    ∙ ap (λ (y : ℕ). bitXor y (crcBits k (x % 2 ^ k))) (shifts k (x / 2 ^ k))

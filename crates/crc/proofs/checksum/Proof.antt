@@ -9,15 +9,14 @@ use lib.Seq.{drop-cons}
 use denote.Ref.{now}
 use borrow.Author.Needs.{needs}
 use Rattle.crc.specs.Crc.{crcFrom, crcOf}
-use Rattle.crc.proofs.Remainders.{table, remainder}
 use Rattle.crc.proofs.checksum.Statement.{statement}
 use Rattle.crc.proofs.checksum.Tie as tie
 
 abbrev Inv-loop : tie.InvT-loop
-Inv-loop s table c₀ i₀ c i = (i ≤ length s) × (crcFrom c (drop i s) ≡ crcOf s)
+Inv-loop s c₀ i₀ c i = (i ≤ length s) × (crcFrom c (drop i s) ≡ crcOf s)
 
 abbrev μ-loop : tie.MeasureT-loop
-μ-loop s table c₀ i₀ c i = length s - i
+μ-loop s c₀ i₀ c i = length s - i
 
 loop-holds : tie.Need-loop-holds Inv-loop μ-loop
 unfolding crcOf
@@ -27,8 +26,7 @@ shared-slice-read-next : tie.Need-shared-slice-read-next Inv-loop μ-loop
 shared-slice-read-next c = search needs
 
 next-requires : tie.Need-next-requires Inv-loop μ-loop
-unfolding table
-next-requires c κs = remainder
+next-requires c κs = search needs
 
 add-i : tie.Need-add-i Inv-loop μ-loop
 add-i c = omega arith
@@ -39,7 +37,7 @@ loop-less c = omega arith
 loop-again : tie.Need-loop-again Inv-loop μ-loop
 unfolding crcFrom
 loop-again c =
-    let l = c .before .before .before .before in
+    let l = c .before .before .before in
     let s = now (l .before .before .args .s) in
     let i = l .loop .i in (
       omega arith,
