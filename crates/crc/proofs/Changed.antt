@@ -13,7 +13,7 @@ use Rattle.crc.specs.Crc.{crcBit, crcBits, crcByte, crcFrom, crcOf, lowF
 use Rattle.crc.proofs.Linear.{back, xor-assoc, swap, linear, shifts}
 use Rattle.crc.proofs.Sealed.{passes-sealed}
 
-along : (c : ℕ) (a b : List ℕ) → crcFrom c (a ++ b) ≡ crcFrom (crcFrom c a) b
+pub along : (c : ℕ) (a b : List ℕ) → crcFrom c (a ++ b) ≡ crcFrom (crcFrom c a) b
 unfolding crcFrom
 along c [] b = refl
 along c (x ∷ a) b = along (crcByte c x) a b
@@ -45,7 +45,7 @@ pub passes-zero : (s : List ℕ) → passesOf s ≡ true → crcOf s ≡ 0
 passes-zero s p = sym (ap crcOf (passes-sealed s p)) ∙ residue (unsealed s)
 
 -- nothing is left of two numbers only if they are equal
-equal : (a b : ℕ) → bitXor a b ≡ 0 → a ≡ b
+pub equal : (a b : ℕ) → bitXor a b ≡ 0 → a ≡ b
 equal a b e =
     sym (xor-zero-r a)
     ∙ ap (bitXor a) (sym (xor-self b))
@@ -54,7 +54,7 @@ equal a b e =
     ∙ xor-zero-l b
 
 -- 16 digits stay 16 digits, and nothing comes of nothing alone
-bits-lt : (k x : ℕ) → x < 65536 → crcBits k x < 65536
+pub bits-lt : (k x : ℕ) → x < 65536 → crcBits k x < 65536
 unfolding crcBits
 bits-lt zero x h = h
 bits-lt (suc k) x h = bits-lt k (crcBit x) (xor-lt 16 (x / 2) (back (x % 2)) (omega arith) (omega arith))
@@ -71,7 +71,7 @@ without : (a b x : ℕ) → bitXor (bitXor a x) (bitXor b x) ≡ bitXor a b
 without a b x = swap a x b x ∙ ap (bitXor (bitXor a b)) (xor-self x) ∙ xor-zero-r (bitXor a b)
 
 -- two registers that differ are apart after any bytes
-apart : (s : List ℕ) (a b : ℕ) → bitXor a b < 65536 → crcFrom a s ≡ crcFrom b s → a ≡ b
+pub apart : (s : List ℕ) (a b : ℕ) → bitXor a b < 65536 → crcFrom a s ≡ crcFrom b s → a ≡ b
 unfolding crcFrom
 apart [] a b h e = e
 apart (x ∷ s) a b h e =
@@ -82,7 +82,7 @@ apart (x ∷ s) a b h e =
     equal a b (bits-none 8 (bitXor a b) h (sym both ∙ ap (λ (y : ℕ). bitXor y (crcByte b x)) same ∙ xor-self (crcByte b x)))
 
 -- two bytes, as one number that is xored into the register before either
-two : (c x y : ℕ) (s : List ℕ) → x < 256 → crcFrom c (x ∷ y ∷ s) ≡ crcFrom (bitXor (y * 256 + x) c) (0 ∷ 0 ∷ s)
+pub two : (c x y : ℕ) (s : List ℕ) → x < 256 → crcFrom c (x ∷ y ∷ s) ≡ crcFrom (bitXor (y * 256 + x) c) (0 ∷ 0 ∷ s)
 unfolding crcFrom
 two c x y s h =
     let r = bitXor (y * 256 + x) c in

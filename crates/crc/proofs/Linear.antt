@@ -19,10 +19,10 @@ differ-assoc (suc zero) (suc (suc y)) z a b c = omega arith
 differ-assoc (suc (suc x)) y z a b c = omega arith
 
 -- the last digit, and what stands above it
-low : (a b : ℕ) → bitXor a b % 2 ≡ differ (a % 2) (b % 2)
+pub low : (a b : ℕ) → bitXor a b % 2 ≡ differ (a % 2) (b % 2)
 low a b = ap (λ (x : ℕ). x % 2) (xor-step a b) ∙ digits-mod (bitXor (a / 2) (b / 2)) (differ-lt (a % 2) (b % 2) (mod-lt a two-pos) (mod-lt b two-pos))
 
-high : (a b : ℕ) → bitXor a b / 2 ≡ bitXor (a / 2) (b / 2)
+pub high : (a b : ℕ) → bitXor a b / 2 ≡ bitXor (a / 2) (b / 2)
 high a b = ap (λ (x : ℕ). x / 2) (xor-step a b) ∙ digits-div (bitXor (a / 2) (b / 2)) (differ-lt (a % 2) (b % 2) (mod-lt a two-pos) (mod-lt b two-pos))
 
 pub xor-assoc : (a b c : ℕ) → bitXor (bitXor a b) c ≡ bitXor a (bitXor b c)

@@ -39,7 +39,7 @@ sealed-passes b =
     high b = eq-eqb _ _ (getD-append-add b (lowFirst (crcOf b)) 1 0)
 
 -- the last two of a list that has two
-ends : (s : List ℕ) → 2 ≤ length s → s ≡ unsealed s ++ (getD s (length s - 2) 0 ∷ getD s (length s - 2 + 1) 0 ∷ [])
+pub ends : (s : List ℕ) → 2 ≤ length s → s ≡ unsealed s ++ (getD s (length s - 2) 0 ∷ getD s (length s - 2 + 1) 0 ∷ [])
 ends s h =
     let n = length s - 2 in
     let one = getD s n 0 in
