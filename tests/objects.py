@@ -2,6 +2,10 @@
 import re
 import struct
 
+# What the box is made of; bytes of its code, and of the checksum's in a program, at most.
+BOX = ("gateway", "status", "line", "rests", "messages", "requests", "questions", "replies", "crc", "word", "places")
+CODE, CHECKSUM = 11776, 600
+
 
 def sections(path):
     """Name, bytes and relocations of each section of the object file: a function's code is `.text.` and its name, its jump tables
@@ -20,6 +24,21 @@ def sections(path):
         if h[1] == 4:
             found[named(heads[h[7]])][1].update(symbols[r[1] >> 32] for r in struct.iter_unpack("<QQq", body(h)))
     return found
+
+
+def code(found):
+    """Bytes of code, with the jump tables, of each crate of the box."""
+    total = dict.fromkeys(BOX, 0)
+    for name, (data, _) in found.items():
+        owner = re.match(r"\.(?:text|rodata)\.(\w+)::", name)
+        if owner and owner.group(1) in total:
+            total[owner.group(1)] += len(data)
+    return total
+
+
+def shared(found):
+    """Bytes of the constants that are no function's own: those that the compiler gathers from all of them."""
+    return sum(len(data) for name, (data, _) in found.items() if name.startswith((".rodata.cst", ".rodata..L")))
 
 
 # ---- the checksum, wherever the compiler wrote it

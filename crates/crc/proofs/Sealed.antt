@@ -1,6 +1,6 @@
 -- A message with its checksum appended passes, and what passes ends in its checksum.
 -- Assumes nothing.
-use mathlib.Core.Path.{_≡_, sym, ap, ap₂, _∙_}
+use mathlib.Core.Path.{_≡_, refl, sym, ap, ap₂, _∙_}
 use mathlib.Core.Bool.{true, _&&_}
 use mathlib.Core.List.{List, [], _∷_, _++_}
 use Prim.Native.Nat.{ℕ, suc, _+_, _-_, _/_, _%_, _≤_}
@@ -12,6 +12,11 @@ use lib.ListN.{length, getD, take, drop, length-append, drop-of-length-le, take-
 use lib.Seq.{getD-append-seam, getD-append-add, take-append-seam, drop-cons}
 use Rattle.crc.specs.Crc.{crcOf, lowFirst, sealed, unsealed, passesOf}
 use Rattle.word.proofs.Match.{both}
+
+-- the body, and its checksum behind it, low byte first
+pub sealed-is : (b : List ℕ) → sealed b ≡ b ++ (crcOf b % 256 ∷ crcOf b / 256 ∷ [])
+unfolding sealed
+sealed-is b = refl
 
 -- what was sealed is the body again
 pub unsealed-sealed : (b : List ℕ) → unsealed (sealed b) ≡ b

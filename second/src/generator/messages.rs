@@ -41,8 +41,14 @@ type Spoil = fn(&mut Random, &mut Draft);
 
 /// Each makes a draft fail one check of the body, in the order of checks.
 const SPOIL_BODY: [Spoil; 6] = [
-    |random, draft| draft.unit = random.pick(&[0, 0, 6, 6, 7, 0x31, 0x80, 0xF7, 0xFF]),
-    |random, draft| draft.function = random.pick(&[0x80, 0x83, 0x90, 0x97, 0xC1, 0xFF]),
+    |random, draft| {
+        let any = random.between(6, 0xFF) as u8;
+        draft.unit = random.pick(&[0, 0, 6, 6, 7, 0x80, 0xF7, 0xFF, any, any]);
+    },
+    |random, draft| {
+        let any = random.between(0x80, 0xFF) as u8;
+        draft.function = random.pick(&[0x80, 0x83, 0x90, 0x97, 0xC1, 0xFF, any, any]);
+    },
     spoil_function,
     spoil_form,
     spoil_offset,
@@ -116,6 +122,10 @@ fn spoil_function(random: &mut Random, draft: &mut Draft) {
         // Served by the lines and not by unit 5.
         draft.unit = 5;
         draft.function = random.pick(&[0x17, 0x41]);
+    } else if random.percent(30) {
+        // Any between two that are served, or above them all.
+        let (between, above) = (random.between(0x18, 0x40), random.between(0x42, 0x7F));
+        draft.function = random.pick(&[between, above]) as u8;
     } else {
         draft.function = random.pick(&[
             0x00, 0x01, 0x02, 0x05, 0x07, 0x08, 0x0B, 0x0F, 0x11, 0x16, 0x18, 0x29, 0x2B, 0x40,
