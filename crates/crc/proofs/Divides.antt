@@ -8,19 +8,16 @@ use Prim.Native.Nat.{ℕ, zero, suc, _+_, _*_, _/_, _%_, _^_, _<_, _≤_}
 use native.Mathlib.Nat.{mod-lt, mul-one, mul-assoc, pow-suc}
 use native.Mathlib.Omega.{arith}
 use lib.Bits.{bitXor, differ, xor-step, xor-comm, xor-shifted, xor-zero-r}
-use lib.ListN.{length, getD}
+use lib.ListN.{length}
 use Rattle.word.proofs.Parity.{two-pos}
 use Rattle.crc.specs.Crc.{crcBit, crcBits, crcByte, crcFrom, crcOf, unsealed, passesOf}
-use Rattle.crc.specs.Divides.{number, product, Divisible}
+use Rattle.crc.specs.Divides.{Bytes, number, product, Divisible}
 use Rattle.crc.proofs.Linear.{xor-assoc}
 use Rattle.crc.proofs.Changed.{passes-zero}
 use Rattle.crc.proofs.Sealed.{length-sealed, passes-sealed}
 
 abbrev pub Multiple : ℕ → Type 0
 Multiple n = (q : List Bool) × (n ≡ product q 0x14003)
-
-abbrev pub Bytes : List ℕ → Type 0
-Bytes s = (k : ℕ) → getD s k 0 < 256
 
 half : (n : ℕ) → n * 2 / 2 ≡ n
 half n = omega arith

@@ -14,10 +14,10 @@ use lib.ListN.{length, getD, take}
 use lib.Seq.{take-length}
 use Rattle.word.proofs.Parity.{two-pos}
 use Rattle.crc.specs.Crc.{crcBit, crcBits, crcByte, crcFrom, crcOf, sealed, unsealed, passesOf}
-use Rattle.crc.specs.Divides.{number, product, Divisible}
+use Rattle.crc.specs.Divides.{Bytes, number, product, Divisible}
 use Rattle.crc.proofs.Linear.{low, xor-assoc}
 use Rattle.crc.proofs.Changed.{along, equal, bits-lt, apart, two}
-use Rattle.crc.proofs.Divides.{Multiple, Bytes, even, step, front}
+use Rattle.crc.proofs.Divides.{Multiple, even, step, front}
 use Rattle.crc.proofs.Sealed.{ends, sealed-passes}
 
 -- the lowest digit of a multiple, and the multiple above it

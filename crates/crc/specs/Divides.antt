@@ -2,10 +2,15 @@
 -- x^16 + x^15 + x^2 + 1 divides. Nothing here is taken from the steps by which a checksum is worked out.
 -- Assumes nothing: these are definitions.
 use mathlib.Core.Path.{_≡_}
-use Prim.Native.Nat.{ℕ, _+_, _*_}
+use Prim.Native.Nat.{ℕ, _+_, _*_, _<_}
 use mathlib.Core.List.{List, [], _∷_}
 use mathlib.Core.Bool.{Bool, true, false}
 use lib.Bits.{bitXor}
+use lib.ListN.{getD}
+
+-- a message is of bytes
+abbrev pub Bytes : List ℕ → Type 0
+Bytes s = (k : ℕ) → getD s k 0 < 256
 
 -- the bytes as one number, the first lowest: its binary digits, from the lowest on, are the bits in the order in which they go out
 unfoldable pub number : List ℕ → ℕ
