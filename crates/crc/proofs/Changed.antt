@@ -8,9 +8,9 @@ use Prim.Native.Nat.{ℕ, zero, suc, _+_, _*_, _/_, _%_, _^_, _<_}
 use native.Mathlib.Nat.{mod-lt}
 use native.Mathlib.Omega.{arith}
 use lib.Pow.{split, pow-pos}
-use lib.Bits.{bitXor, xor-comm, xor-lt, xor-self, xor-shifted, xor-zero-l, xor-zero-r}
+use lib.Bits.{bitXor, xor-comm, xor-lt, xor-self, xor-shifted, xor-zero-r}
 use Rattle.crc.specs.Crc.{crcBit, crcBits, crcByte, crcFrom, crcOf, lowFirst, sealed, unsealed, passesOf}
-use Rattle.crc.proofs.Linear.{back, xor-assoc, swap, linear, shifts}
+use Rattle.crc.proofs.Linear.{back, xor-assoc, again, swap, linear, shifts}
 use Rattle.crc.proofs.Sealed.{passes-sealed}
 
 pub along : (c : ℕ) (a b : List ℕ) → crcFrom c (a ++ b) ≡ crcFrom (crcFrom c a) b
@@ -46,12 +46,7 @@ passes-zero s p = sym (ap crcOf (passes-sealed s p)) ∙ residue (unsealed s)
 
 -- nothing is left of two numbers only if they are equal
 pub equal : (a b : ℕ) → bitXor a b ≡ 0 → a ≡ b
-equal a b e =
-    sym (xor-zero-r a)
-    ∙ ap (bitXor a) (sym (xor-self b))
-    ∙ sym (xor-assoc a b b)
-    ∙ ap (λ (x : ℕ). bitXor x b) e
-    ∙ xor-zero-l b
+equal a b e = sym (xor-zero-r a) ∙ ap (bitXor a) (sym e) ∙ again a b
 
 -- 16 digits stay 16 digits, and nothing comes of nothing alone
 pub bits-lt : (k x : ℕ) → x < 65536 → crcBits k x < 65536

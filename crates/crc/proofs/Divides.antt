@@ -64,11 +64,12 @@ step k x n =
     ∙ sym (xor-assoc (x % 2 * 0x14003) (crcBit x * 2) (n * 2 ^ k * 2))
     ∙ ap₂ bitXor (one x) (sym (shift n k))
 
-back : (k x n : ℕ) → Multiple (bitXor (crcBits k x) n) → Multiple (bitXor x (n * 2 ^ k))
+-- what is a multiple after k bits was one before them
+rebuilt : (k x n : ℕ) → Multiple (bitXor (crcBits k x) n) → Multiple (bitXor x (n * 2 ^ k))
 unfolding crcBits
-back zero x n h = subst (λ (y : ℕ). Multiple (bitXor x y)) (sym (mul-one n)) h
-back (suc k) x n h =
-    subst Multiple (step k x n) (more (x % 2) (bitXor (crcBit x) (n * 2 ^ k)) (mod-lt x two-pos) (back k (crcBit x) n h))
+rebuilt zero x n h = subst (λ (y : ℕ). Multiple (bitXor x y)) (sym (mul-one n)) h
+rebuilt (suc k) x n h =
+    subst Multiple (step k x n) (more (x % 2) (bitXor (crcBit x) (n * 2 ^ k)) (mod-lt x two-pos) (rebuilt k (crcBit x) n h))
 
 -- a byte in front of a number
 pub front : (c b n : ℕ) → b < 256 → bitXor (bitXor c b) (n * 2 ^ 8) ≡ bitXor c (b + 256 * n)
@@ -76,11 +77,12 @@ front c b n l =
     let e : bitXor b (n * 2 ^ 8) ≡ b + 256 * n = xor-comm b (n * 2 ^ 8) ∙ xor-shifted n 8 b l ∙ omega arith in
     xor-assoc c b (n * 2 ^ 8) ∙ ap (bitXor c) e
 
+-- a message of which a register leaves nothing
 down : (s : List ℕ) (c : ℕ) → Bytes s → crcFrom c s ≡ 0 → Multiple (bitXor c (number s))
 unfolding crcFrom number product
 down [] c l e = ([], xor-zero-r c ∙ e)
 down (b ∷ s) c l e =
-    subst Multiple (front c b (number s) (l 0)) (back 8 (bitXor c b) (number s) (down s (crcByte c b) (λ k. l (suc k)) e))
+    subst Multiple (front c b (number s) (l 0)) (rebuilt 8 (bitXor c b) (number s) (down s (crcByte c b) (λ k. l (suc k)) e))
 
 -- what passes has its two bytes of checksum, and is divisible
 pub divides : (s : List ℕ) → Bytes s → passesOf s ≡ true → (2 ≤ length s) × Divisible s

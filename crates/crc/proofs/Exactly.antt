@@ -8,14 +8,14 @@ use mathlib.Core.List.{List, [], _∷_, _++_}
 use Prim.Native.Nat.{ℕ, zero, suc, _+_, _-_, _*_, _/_, _%_, _^_, _<_, _≤_}
 use native.Mathlib.Nat.{lt-of-not-le, mod-lt, mul-one}
 use native.Mathlib.Omega.{arith}
-use lib.Bits.{bitXor, differ, xor-comm, xor-lt, xor-self, xor-zero-l, xor-zero-r}
+use lib.Bits.{bitXor, differ, xor-comm, xor-lt, xor-zero-r}
 use lib.Dec.{lit≤}
 use lib.ListN.{length, getD, take}
 use lib.Seq.{take-length}
 use Rattle.word.proofs.Parity.{two-pos}
 use Rattle.crc.specs.Crc.{crcBit, crcBits, crcByte, crcFrom, crcOf, sealed, unsealed, passesOf}
 use Rattle.crc.specs.Divides.{Bytes, number, product, Divisible}
-use Rattle.crc.proofs.Linear.{low, xor-assoc}
+use Rattle.crc.proofs.Linear.{low, again}
 use Rattle.crc.proofs.Changed.{along, equal, bits-lt, apart, two}
 use Rattle.crc.proofs.Divides.{Multiple, even, step, front}
 use Rattle.crc.proofs.Sealed.{ends, sealed-passes}
@@ -28,9 +28,6 @@ lowest d m l = low (d * 0x14003) (m * 2) ∙ ap (differ (d * 0x14003 % 2)) (even
     odd zero l = refl
     odd (suc zero) l = refl
     odd (suc (suc d)) l = absurd (omega arith)
-
-again : (u a : ℕ) → bitXor u (bitXor u a) ≡ a
-again u a = sym (xor-assoc u u a) ∙ ap (λ (x : ℕ). bitXor x a) (xor-self u) ∙ xor-zero-l a
 
 above : (d e m n : ℕ) → d < 2 → e < 2 → bitXor (d * 0x14003) (m * 2) ≡ bitXor (e * 0x14003) (n * 2) → m ≡ n
 above d e m n l r p =
@@ -46,16 +43,18 @@ halved x m ([], e) = ([], above (x % 2) 0 m 0 (mod-lt x two-pos) two-pos e)
 halved x m (true ∷ q, e) = (q, above (x % 2) 1 m (product q 0x14003) (mod-lt x two-pos) (omega arith) e)
 halved x m (false ∷ q, e) = (q, above (x % 2) 0 m (product q 0x14003) (mod-lt x two-pos) two-pos e)
 
-forth : (k x n : ℕ) → Multiple (bitXor x (n * 2 ^ k)) → Multiple (bitXor (crcBits k x) n)
+-- what is a multiple is one after k bits
+stripped : (k x n : ℕ) → Multiple (bitXor x (n * 2 ^ k)) → Multiple (bitXor (crcBits k x) n)
 unfolding crcBits
-forth zero x n h = subst (λ (y : ℕ). Multiple (bitXor x y)) (mul-one n) h
-forth (suc k) x n h = forth k (crcBit x) n (halved x (bitXor (crcBit x) (n * 2 ^ k)) (subst Multiple (sym (step k x n)) h))
+stripped zero x n h = subst (λ (y : ℕ). Multiple (bitXor x y)) (mul-one n) h
+stripped (suc k) x n h = stripped k (crcBit x) n (halved x (bitXor (crcBit x) (n * 2 ^ k)) (subst Multiple (sym (step k x n)) h))
 
+-- what a register leaves of a multiple
 up : (s : List ℕ) (c : ℕ) → Bytes s → Multiple (bitXor c (number s)) → Multiple (crcFrom c s)
 unfolding crcFrom number
 up [] c l h = subst Multiple (xor-zero-r c) h
 up (b ∷ s) c l h =
-    up s (crcByte c b) (λ k. l (suc k)) (forth 8 (bitXor c b) (number s) (subst Multiple (sym (front c b (number s) (l 0))) h))
+    up s (crcByte c b) (λ k. l (suc k)) (stripped 8 (bitXor c b) (number s) (subst Multiple (sym (front c b (number s) (l 0))) h))
 
 -- no multiple but 0 has fewer digits than the divisor
 large : (q : List Bool) → (product q 0x14003 ≡ 0) ⊎ (65536 ≤ product q 0x14003)

@@ -5,7 +5,7 @@ use Prim.Native.Nat.{ℕ, zero, suc, _+_, _*_, _/_, _%_, _^_, _<_}
 use native.Mathlib.Nat.{mod-lt, mul-one}
 use native.Mathlib.Omega.{arith}
 use lib.Arith.{bin-ind, digits-div, digits-mod}
-use lib.Bits.{bitXor, differ, xor-step, xor-zero-r, shifted-half, shifted-even, xor-comm}
+use lib.Bits.{bitXor, differ, xor-step, xor-self, xor-zero-l, xor-zero-r, shifted-half, shifted-even, xor-comm}
 use Rattle.word.proofs.Parity.{two-pos, differ-lt}
 use Rattle.crc.specs.Crc.{crcBit, crcBits}
 
@@ -34,6 +34,10 @@ xor-assoc a =
     ∙ ap₂ (λ (x y : ℕ). x * 2 + y) (ih (b / 2) (c / 2)) (differ-assoc (n % 2) (b % 2) (c % 2) (mod-lt n two-pos) (mod-lt b two-pos) (mod-lt c two-pos))
     ∙ sym (xor-step n (bitXor b c)
     ∙ ap₂ (λ (x y : ℕ). bitXor (n / 2) x * 2 + differ (n % 2) y) (high b c) (low b c))) a
+
+-- a number that is xored in twice goes out
+pub again : (u a : ℕ) → bitXor u (bitXor u a) ≡ a
+again u a = sym (xor-assoc u u a) ∙ ap (λ (x : ℕ). bitXor x a) (xor-self u) ∙ xor-zero-l a
 
 -- two pairs, the other way round
 pub swap : (a b c d : ℕ) → bitXor (bitXor a b) (bitXor c d) ≡ bitXor (bitXor a c) (bitXor b d)
