@@ -6,6 +6,7 @@ pub mod Parity
 pub mod Fields
 pub mod Numbers
 pub mod Table
+pub mod Parts
 pub mod Match
 pub mod Spare
 pub mod Worked

@@ -15,33 +15,11 @@ use Rattle.word.proofs.Clash.{clash}
 use Rattle.word.proofs.Table.{below, under}
 use Rattle.word.proofs.Fields.{fields}
 use Rattle.word.proofs.Good.{good, of_good, good_passes, passes_good}
+pub use Rattle.word.proofs.Parts.{both}
+use Rattle.word.proofs.Parts.{parts, joined}
 use Rattle.word.specs.Checks.{Passes}
-use Rattle.word.specs.Frame.{even_of, good_checks, good_of, id_of, type_of, suits_of, matches_of}
+use Rattle.word.specs.Frame.{even_of, good_checks, type_of, suits_of, matches_of}
 use Rattle.word.specs.Fields.{Fields, Fit, word_of, Read, answers, Among, Matches}
-
--- both parts of a conjunction that holds
-pub both : (a b : Bool) → (a && b) ≡ true → (a ≡ true) × (b ≡ true)
-both true b e = (refl, e)
-both false b e = clash cc
-
--- the three parts of a match
-record Parts (q b : ℕ) : Type 0 where
-  good : good_of b ≡ true
-  id : id_of q ≡ id_of b
-  suits : suits_of (type_of q) (type_of b) ≡ true
-
-parts : (q b : ℕ) → matches_of q b ≡ true → Parts q b
-unfolding matches_of
-parts q b m =
-    let same = eqb (id_of q) (id_of b) in
-    let fits = suits_of (type_of q) (type_of b) in
-    let p = both (good_of b) (same && fits) m in
-    let s = both same fits p.1 in
-    record { good = p.0; id = eqb-true (id_of q) (id_of b) s.0; suits = s.1 }
-
-joined : (q b : ℕ) → Parts q b → matches_of q b ≡ true
-unfolding matches_of
-joined q b p = rw (p.good, eq-eqb (id_of q) (id_of b) p.id) p.suits
 
 -- the table, by one test of its 8 rows and the 8 types
 abbrev row : ℕ → List ℕ
