@@ -1,6 +1,8 @@
 // The checksum of a Modbus message: CRC-16 with 0xA001, start 0xFFFF, low byte first, worked out bit by bit, with no table. The compiler knows
 // the usual loop over a byte's bits and makes a table of 256 words of it again; the one below it leaves alone (docs/DECISIONS.md, and tests/flash
 // looks at what was built).
+#![tactic(auto)]
+
 ghost use Rattle.std.specs.Prelude.{◌≡◌, ◌*◌, ◌%◌};
 ghost use Rattle.crc.specs.Crc.{crc_byte, crc_of, passes_of};
 
@@ -15,6 +17,7 @@ fn feedback(c: u16) -> u16
 }
 
 // The register after one more byte.
+#[tactic(auto, unfolding(crate::specs::Crc::crc_bits))]
 fn next(crc: u16, b: u8) -> u16
     ensures { result ≡ crc_byte crc b }
 {
@@ -27,6 +30,7 @@ fn next(crc: u16, b: u8) -> u16
     c
 }
 
+#[tactic(auto, unfolding(crate::specs::Crc::crc_of, crate::specs::Crc::crc_from))]
 pub fn checksum(s: &[u8]) -> u16
     ensures { result ≡ crc_of s.now }
 {
@@ -40,6 +44,7 @@ pub fn checksum(s: &[u8]) -> u16
 }
 
 // Whether a message's last two bytes are the checksum of those before them.
+#[tactic(auto, unfolding(crate::specs::Crc::passes_of))]
 pub fn passes(s: &[u8]) -> bool
     ensures { result ≡ passes_of s.now }
 {

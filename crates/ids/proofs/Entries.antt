@@ -3,35 +3,16 @@
 -- access, at least one of the two. What 01 says of the table are parts of it.
 -- Assumes nothing.
 use mathlib.Core.Path.{◌≡◌, refl, sym, ap, ◌∙◌, subst}
-use mathlib.Core.List.{List, [], ◌∷◌, ◌++◌}
+use mathlib.Core.List.{List, [], ◌∷◌}
 use mathlib.Core.Bool.{Bool, true, false, ◌||◌}
 use Prim.Native.Nat.{ℕ, zero, suc, ◌+◌, ◌*◌, ◌/◌, ◌%◌, ◌≤◌, ◌<◌}
 use native.Mathlib.Omega.{arith}
 use lib.Dec.{T, eqb, ltb, leb, eqb→eq}
-use lib.ListN.{get_or, replicate}
+use lib.ListN.{get_or}
 use borrow.Author.Tests.{eqb-true, leb-true, ltb-true}
 use Rattle.ids.specs.Ids.{Row, row, raw, rows, rows_in, rows_of, some, packed, listed, entry_of, kind_of, readable_of, writable_of}
 use Rattle.word.proofs.Table.{joined, at}
-
--- the numbers of src/lib.rt: those of the ids up to 127, and 0 from 128 on
-abbrev lower : List ℕ
-lower =
-    12 ∷ 17 ∷ 20 ∷ 12 ∷ 20 ∷ 12 ∷ 12 ∷ 17 ∷ 17 ∷ 9 ∷  -- 0 to 9
-    12 ∷ 28 ∷ 12 ∷ 12 ∷ 17 ∷ 12 ∷ 17 ∷ 9 ∷ 9 ∷ 9 ∷  -- 10 to 19
-    28 ∷ 28 ∷ 27 ∷ 17 ∷ 17 ∷ 9 ∷ 9 ∷ 25 ∷ 9 ∷ 9 ∷  -- 20 to 29
-    10 ∷ 9 ∷ 9 ∷ 10 ∷ 9 ∷ 12 ∷ 9 ∷ 17 ∷ 25 ∷ 9 ∷  -- 30 to 39
-    0 ∷ 0 ∷ 0 ∷ 0 ∷ 0 ∷ 0 ∷ 0 ∷ 0 ∷ 13 ∷ 13 ∷  -- 40 to 49
-    0 ∷ 0 ∷ 0 ∷ 0 ∷ 0 ∷ 0 ∷ 25 ∷ 25 ∷ 0 ∷ 0 ∷  -- 50 to 59
-    0 ∷ 0 ∷ 0 ∷ 0 ∷ 0 ∷ 0 ∷ 0 ∷ 0 ∷ 0 ∷ 0 ∷  -- 60 to 69
-    12 ∷ 20 ∷ 12 ∷ 11 ∷ 12 ∷ 9 ∷ 12 ∷ 12 ∷ 28 ∷ 27 ∷  -- 70 to 79
-    9 ∷ 9 ∷ 9 ∷ 9 ∷ 11 ∷ 11 ∷ 12 ∷ 28 ∷ 12 ∷ 28 ∷  -- 80 to 89
-    12 ∷ 12 ∷ 0 ∷ 12 ∷ 12 ∷ 12 ∷ 27 ∷ 27 ∷ 20 ∷ 28 ∷  -- 90 to 99
-    12 ∷ 12 ∷ 12 ∷ 12 ∷ 12 ∷ 12 ∷ 28 ∷ 12 ∷ 12 ∷ 27 ∷  -- 100 to 109
-    27 ∷ 11 ∷ 27 ∷ 27 ∷ 27 ∷ 11 ∷ 27 ∷ 27 ∷ 27 ∷ 27 ∷  -- 110 to 119
-    27 ∷ 27 ∷ 27 ∷ 27 ∷ 17 ∷ 9 ∷ 20 ∷ 12 ∷ []  -- 120 to 127
-
-unfoldable pub table : List ℕ
-table = lower ++ replicate 128 0
+unfoldable pub use Rattle.ids.proofs.Numbers.{table}
 
 -- whether the number x may stand for the id k, whose rows are l
 stands : ℕ → ℕ → List Row → Bool

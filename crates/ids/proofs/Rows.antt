@@ -27,7 +27,7 @@ access_in (row i k a) = a
 -- a row of the list is among the rows of its id
 among : (l : List Row) (i k a : ℕ) → Memᴰ (row i k a) l → Memᴰ (row i k a) (rows_in l i)
 unfolding rows_in id_of
-among [] i k a m = absurd (Memᴰ.not_nil m)
+among [] i k a m = absurd (Memᴰ.not-nil m)
 among (row j n b ∷ l) i k a m = go (Memᴰ.cases_cons m) (λ h. among l i k a h)
   where
     kept : (t : Bool) → Memᴰ (row i k a) (rows_in l i) → Memᴰ (row i k a) (cond t (row j n b ∷ rows_in l i) (rows_in l i))
@@ -46,7 +46,7 @@ within (row i k a ∷ l) = joined (ltb i 128) (within l)
 
 below : (l : List Row) → T (within l) → (i k a : ℕ) → Memᴰ (row i k a) l → i < 128
 unfolding within id_of
-below [] t i k a m = absurd (Memᴰ.not_nil m)
+below [] t i k a m = absurd (Memᴰ.not-nil m)
 below (row j n b ∷ l) t i k a m = go (Memᴰ.cases_cons m) (λ h. below l (parts (ltb j 128) (within l) t).1 i k a h)
   where
     go : (row i k a ≡ row j n b) ⊎ Memᴰ (row i k a) l → (Memᴰ (row i k a) l → i < 128) → i < 128
@@ -72,7 +72,7 @@ each_row i k a m = go (rows_of i) (here i (let low = low_row i k a m in omega ar
 
     go : (l : List Row) → Stands i (get_or table i 0) l → Memᴰ (row i k a) l →
         (packed l % 8 ≡ k) × (eqb (packed l / 8 % 2) 1 ≡ (eqb a R || eqb a RW)) × (eqb (packed l / 16 % 2) 1 ≡ (eqb a W || eqb a RW))
-    go _ (none e) h = absurd (Memᴰ.not_nil h)
+    go _ (none e) h = absurd (Memᴰ.not-nil h)
     go _ (one j n b p) h =
         let e = Memᴰ.eq_of_singleton h in
         let same_kind : n ≡ k = sym (ap kind_in e) in

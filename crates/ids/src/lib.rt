@@ -1,4 +1,6 @@
 // The table of the 256 data ids: each id's kind and whether it may be read or written, from section 5.3 of document 000.
+#![tactic(auto)]
+
 ghost use Rattle.std.specs.Prelude.{◌≡◌};
 ghost use Rattle.ids.specs.Ids.{entry_of, kind_of, readable_of, writable_of};
 
@@ -269,18 +271,21 @@ fn entry(id: u8) -> u8
     TABLE[id as usize]
 }
 
+#[tactic(auto, unfolding(crate::specs::Ids::kind_of))]
 pub fn kind_of(id: u8) -> u8
     ensures { result ≡ kind_of id }
 {
     entry(id) % 8
 }
 
+#[tactic(auto, unfolding(crate::specs::Ids::readable_of))]
 pub fn readable(id: u8) -> bool
     ensures { result ≡ readable_of id }
 {
     entry(id) / 8 % 2 == 1
 }
 
+#[tactic(auto, unfolding(crate::specs::Ids::writable_of))]
 pub fn writable(id: u8) -> bool
     ensures { result ≡ writable_of id }
 {

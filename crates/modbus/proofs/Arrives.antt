@@ -115,6 +115,7 @@ module _ (s : List ℕ) (h : Bytes s) where
       as_read
       (serial_broken (leb-true 4 (length s) e) (leb-true (length s) 256 f)
       (λ b is. let passes = ap passes_of is ∙ sealed_passes b in clash cc))
+  serial_arrives (inl (n, later e (later f (later g x)))) = elim x [ ]
   serial_arrives (inr (all e (all f (all g p)))) =
       let from = leb-true 4 (length s) e in
       let upto = leb-true (length s) 256 f in
@@ -132,6 +133,7 @@ module _ (s : List ℕ) (h : Bytes s) where
       let from = leb-true 8 (length s) e in
       let fields = protocol_is s h (eqb-true (pair_at s 2) 0 g) in
       as_read (tcp_length from (leb-true (length s) 260 f) fields.0 fields.1 (λ is. eqb-false (pair_at s 4) (length s - 6) i (length_is s h from is)))
+  tcp_arrives (inl (n, later e (later f (later g (later i x))))) = elim x [ ]
   tcp_arrives (inr (all e (all f p))) =
       let from = leb-true 8 (length s) e in
       let upto = leb-true (length s) 260 f in

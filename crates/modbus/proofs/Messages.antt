@@ -90,10 +90,11 @@ module _ (ns : List ℕ) where
     where
       go : ((n : ℕ) × Fails cs n) ⊎ Passes cs → Good ns (judged cs Silent next)
       go (inl f) = subst⁻¹ (Good ns) (refuses Silent next f.1) (p f.0 f.1)
-      go (inr all) = subst⁻¹ (Good ns) (goes_on Silent next all) q
+      go (inr passed) = subst⁻¹ (Good ns) (goes_on Silent next passed) q
 
 -- a number of either list is one of both
 sooner : (ms ns : List ℕ) (n : ℕ) → Among ms n → Among (ms ++ ns) n
+sooner [] ns n x = elim x [ ]
 sooner (m ∷ ms) ns n (inl e) = inl e
 sooner (m ∷ ms) ns n (inr p) = inr (sooner ms ns n p)
 
@@ -105,6 +106,7 @@ body_numbers : (b : List ℕ) (n : ℕ) → Fails (silent_checks b) n → Among 
 body_numbers b n (here e) = inl refl
 body_numbers b n (later e (here f)) = inl refl
 body_numbers b n (later e (later f (here g))) = inr (inl refl)
+body_numbers b n (later e (later f (later g x))) = elim x [ ]
 
 module _ {W : Wrapping} (law : Lawful W) where
   good : (s : List ℕ) → Good (silences_of W) (reads W s)

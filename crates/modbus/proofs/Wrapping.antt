@@ -47,6 +47,7 @@ serial_numbered : (s : List ℕ) (n : ℕ) → Fails (serial_checks s) n → Amo
 serial_numbered s n (here e) = inl refl
 serial_numbered s n (later e (here f)) = inl refl
 serial_numbered s n (later e (later f (here g))) = inr (inl refl)
+serial_numbered s n (later e (later f (later g x))) = elim x [ ]
 
 pub serial_lawful : Lawful serial
 serial_lawful = record {
@@ -71,8 +72,8 @@ drop_bytes (suc n) [] h k = lit< tt
 drop_bytes (suc n) (x ∷ s) h k = drop_bytes n s (λ j. h (suc j)) k
 
 -- each field behind those before it
-transaction_back : (t : ℕ) (b : List ℕ) → pair_at (headed t b) 0 ≡ t
-transaction_back t b = pair_back [] (pair 0 (pair (length b) b)) t
+transaction_back : (t : ℕ) (b : List ℕ) → tcp.transaction (headed t b) ≡ t
+transaction_back t b = pair_back [] _ t
 
 protocol_back : (t : ℕ) (b : List ℕ) → pair_at (headed t b) 2 ≡ 0
 protocol_back t b = pair_back (pair t []) (pair (length b) b) 0
@@ -102,6 +103,7 @@ tcp_numbered s n (here e) = inl refl
 tcp_numbered s n (later e (here f)) = inl refl
 tcp_numbered s n (later e (later f (here g))) = inr (inl refl)
 tcp_numbered s n (later e (later f (later g (here i)))) = inr (inr (inl refl))
+tcp_numbered s n (later e (later f (later g (later i x)))) = elim x [ ]
 
 pub tcp_lawful : Lawful tcp
 tcp_lawful = record {

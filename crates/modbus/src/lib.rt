@@ -1,10 +1,12 @@
 // The words of 01, 'Modbus': what becomes of a message, what an order asks and comes to, what is replied and written. The rules over
 // them, and what follows from them, are in specs/ and proofs/; there is no code here.
+#![tactic(auto)]
+
 pub mod rows;
 pub mod shape;
 
 // How messages and replies are wrapped. A box has either form (02, Ask 4).
-#[derive(Drop)]
+#[derive(Clone, Copy)]
 pub enum MessageForm {
     // The body, and its checksum behind it.
     Serial,
@@ -13,7 +15,7 @@ pub enum MessageForm {
 }
 
 // The type of a question on the line: 0, 1 and 2.
-#[derive(Drop)]
+#[derive(Clone, Copy)]
 pub enum QuestionType {
     ReadData,
     WriteData,
@@ -22,7 +24,7 @@ pub enum QuestionType {
 
 // What an order asks of its line's boiler; and whether it is a read alone, which takes the master's own status with it for ids 0 and 70 (02,
 // Ask 2).
-#[derive(Drop)]
+#[derive(Clone, Copy)]
 pub struct Question {
     pub t: QuestionType,
     pub id: u8,
@@ -31,7 +33,7 @@ pub struct Question {
 }
 
 // How the normal reply goes on after unit and function.
-#[derive(Drop)]
+#[derive(Clone, Copy)]
 pub enum Form {
     // 02, value.
     Value,
@@ -50,7 +52,7 @@ pub enum Form {
 }
 
 // A question for a line, and what its reply will need.
-#[derive(Drop)]
+#[derive(Clone, Copy)]
 pub struct Order {
     pub line: u8,
     pub question: Question,
@@ -60,13 +62,13 @@ pub struct Order {
 }
 
 // What an order came to: the boiler's type and value, or no answer.
-#[derive(Drop)]
+#[derive(Clone, Copy)]
 pub enum Outcome {
     Answer(u8, u16),
     NoAnswer,
 }
 
-#[derive(Drop)]
+#[derive(Clone, Copy)]
 pub enum Reply {
     // Unit, function, code.
     Exception(u8, u8, u8),
@@ -81,7 +83,7 @@ pub enum Reply {
 }
 
 // What becomes of a message.
-#[derive(Drop)]
+#[derive(Clone, Copy)]
 pub enum Reading {
     // Refusal 11 to 14, 17 or 18: no reply at all.
     Silent(u8),
@@ -92,7 +94,7 @@ pub enum Reading {
     Accepted(Order),
 }
 
-#[derive(Drop)]
+#[derive(Clone, Copy)]
 pub enum Written {
     // So many bytes stand in the room.
     Count(usize),

@@ -2,14 +2,14 @@
 use crate::{Form, QuestionType};
 
 // The offset's high byte.
-#[derive(Drop)]
+#[derive(Clone, Copy)]
 pub enum Page {
     Any,
     At(u8),
 }
 
 // The question on the line.
-#[derive(Drop)]
+#[derive(Clone, Copy)]
 pub enum Asks {
     // READ-DATA, value 0: a read alone. For ids 0 and 70 with the master's own status (02, Ask 2).
     Alone,
@@ -20,17 +20,17 @@ pub enum Asks {
 }
 
 // Function, registers read and written, offset page, question, reply form: eight bytes.
-#[derive(Drop)]
+#[derive(Clone, Copy)]
 pub struct Row(pub u8, pub u8, pub u8, pub Page, pub Asks, pub Form);
 
-#[derive(Drop)]
+#[derive(Clone, Copy)]
 pub enum Found {
     First(Row),
     Nothing,
 }
 
 // What a row and the message field give for a type.
-#[derive(Drop)]
+#[derive(Clone, Copy)]
 pub enum Naming {
     Known(QuestionType),
     Unnamed,

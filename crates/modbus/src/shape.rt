@@ -1,7 +1,7 @@
 // The fields of a request; where each stands is in specs/Shape.antt.
 
 // What a request of the right form says.
-#[derive(Drop)]
+#[derive(Clone, Copy)]
 pub struct Fields {
     pub function: u8,
     // Registers read and written.

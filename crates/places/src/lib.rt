@@ -1,4 +1,6 @@
 // Numbers of one, two and four bytes, the high byte first, at a place of a slice. Bytes past the end count as 0.
+#![tactic(auto)]
+
 ghost use Rattle.std.specs.Prelude.{◌≡◌, get_or};
 ghost use Rattle.places.specs.Bytes.{pair_at, word_at};
 
@@ -8,6 +10,7 @@ pub fn byte_at(s: &[u8], at: usize) -> u8
     if at < s.len() { s[at] } else { 0 }
 }
 
+#[tactic(auto, unfolding(crate::specs::Bytes::pair_at))]
 pub fn pair_at(s: &[u8], at: usize) -> u16
     ensures { result ≡ pair_at s.now at }
 {
@@ -20,6 +23,7 @@ pub fn pair_at(s: &[u8], at: usize) -> u16
     }
 }
 
+#[tactic(auto, unfolding(crate::specs::Bytes::word_at), using(crate::proofs::Place::word_past))]
 pub fn word_at(s: &[u8], at: usize) -> u32
     ensures { result ≡ word_at s.now at }
 {

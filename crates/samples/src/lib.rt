@@ -1,10 +1,12 @@
 // The words of 01, 'Samples': how far a frame is read, what a sample is answered, and what becomes of a word that is to be written. The
 // rules over them, and what they promise, are in specs/ and proofs/; there is no code here.
+#![tactic(auto)]
+
 use word::Frame;
 
 // Past a middle edge: how many there were, the frame as far as they tell it, how far the last sample is from the last of them, that
 // sample's level, and whether the one other edge was there.
-#[derive(Drop)]
+#[derive(Clone, Copy)]
 pub struct Middle {
     pub edges: u8,
     pub frame: Frame,
@@ -13,7 +15,7 @@ pub struct Middle {
     pub other: bool,
 }
 
-#[derive(Drop)]
+#[derive(Clone, Copy)]
 pub enum Phase {
     // So many idle samples in a row, 24 at most.
     Waiting(u8),
@@ -22,14 +24,14 @@ pub enum Phase {
     Bits(Middle),
 }
 
-#[derive(Drop)]
+#[derive(Clone, Copy)]
 pub enum Answer {
     Nothing,
     Frame(Frame),
     Refused(u8),
 }
 
-#[derive(Drop)]
+#[derive(Clone, Copy)]
 pub enum Written {
     Done,
     Refused(u8),

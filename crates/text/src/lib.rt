@@ -1,9 +1,11 @@
 // A line of text in ASCII, by value: bytes, words and numbers put one after the other.
+#![tactic(auto)]
+
 ghost use Rattle.std.specs.Prelude.{◌≡◌, ◌<◌};
 ghost use Rattle.text.specs.Text.{empty_text, pushed, puts, hex_digit, decimal_of, hex_of};
 
 // The bytes of a line, the first `len` of them used.
-#[derive(Drop)]
+#[derive(Clone, Copy)]
 pub struct Text {
     pub bytes: [u8; 120],
     pub len: usize,
@@ -12,6 +14,7 @@ pub struct Text {
 impl Text {
     const ROOM: usize = 120;
 
+    #[tactic(auto, unfolding(crate::specs::Text::empty_text))]
     pub fn empty() -> Self
         ensures { result ≡ empty_text }
     {
@@ -22,6 +25,7 @@ impl Text {
     }
 
     // One byte more; a full line stays as it is.
+    #[tactic(auto, unfolding(crate::specs::Text::pushed))]
     pub fn push(mut self, b: u8) -> Self
         ensures { result ≡ pushed self b }
     {
@@ -33,6 +37,7 @@ impl Text {
         self
     }
 
+    #[tactic(auto, unfolding(crate::specs::Text::puts))]
     pub fn put(self, s: &[u8]) -> Self
         ensures { result ≡ puts self s.now }
     {

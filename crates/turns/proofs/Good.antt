@@ -16,7 +16,7 @@ use Rattle.word.proofs.Good.{passes_good}
 use Rattle.word.proofs.Match.{match_good}
 use Rattle.turns.specs.Line.{Line, Step}
 use Rattle.turns.specs.Turns.{asks_by, thermostat_of, thermostat_checks, refusal}
-use Rattle.turns.specs.Events.{Event, Note, thermostat, held, refused, note_of, Events}
+use Rattle.turns.specs.Events.{Event, held, refused, note_of, Events}
 use Rattle.turns.specs.History.{do_of, line_at, said_at, notes}
 use Rattle.turns.specs.Sight.{Came, line_scene}
 use Rattle.turns.specs.Talks.{GoodOnly}

@@ -14,7 +14,7 @@ use Rattle.turns.specs.declared.Turn.TheVariants.{Rest, Talk}
 use Rattle.turns.specs.declared.Slot.{Slot}
 use Rattle.turns.specs.declared.Slot.TheVariants.{Empty, Full}
 use Rattle.turns.specs.Turns.{older, held_older, line_older, ended_of}
-use Rattle.turns.specs.Events.{Event, tick, beat, clock, Events, Notes, held, sent, note_of}
+use Rattle.turns.specs.Events.{Event, tick, beat, clock, Events, Notes, sent, note_of}
 use Rattle.turns.specs.Sight.{Came}
 use Rattle.turns.specs.Relay.{NoneHeld, NoneRelayed}
 use Rattle.turns.proofs.Clock.{clock_suc, last_or}

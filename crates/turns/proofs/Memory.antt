@@ -2,15 +2,15 @@
 --     agrees           at each event, from what a step does to it (`changes`)
 --     sure             an order that waits is no status question, or its status is known
 --     gives            so the frame of the order that waits is its own
---     lack, lack-back  the line lacks a status exactly where the history does
+--     lack, lack_back  the line lacks a status exactly where the history does
 -- Assumes nothing.
 use Prim.Native.Nat.{ℕ, zero, suc, ◌*◌, ◌/◌, ◌<◌}
-use mathlib.Core.Path.{◌≡◌, refl, sym, ap, ◌∙◌, subst}
+use mathlib.Core.Path.{◌≡◌, refl, ap, ◌∙◌, subst}
 use mathlib.Core.Bool.{Bool, true, false, cond, ◌&&◌, ◌||◌}
 use mathlib.Core.Logic.{◌⊎◌, inl, inr, ⊎_elim}
 use native.Mathlib.Omega.{arith}
 use lib.Dec.{eqb}
-use borrow.Author.Tests.{eqb-true, eqb-false, eq-eqb}
+use borrow.Author.Tests.{eqb-true, eqb-false}
 use Rattle.word.proofs.Clash.{clash}
 use Rattle.word.proofs.Match.{both}
 use Rattle.word.proofs.Fields.{built_from}
@@ -96,19 +96,20 @@ module _ (s : Notes) where
       same g sh = let o = sh.out in cc
 
       go : (p q : Bool) → eqb (type_of f.word) read_data ≡ p → eqb (id_of f.word) i ≡ q →
-          Agrees i (suc n) (cond p (cond q (Known (value_of f.word / 256)) x) x)
-      go true true ep eq = (
-        f,
-        record {
-          m = n;
-          before = omega arith;
-          shows = record { out = es; reads = eqb-true (type_of f.word) 0 ep; names = eqb-true (id_of f.word) i eq };
-          no_later = λ k g lo up sh. omega arith;
-        },
-        refl,
-      )
-      go true false ep eq = quiet i n x (λ g sh. eqb-false (id_of f.word) i eq (ap (λ (y : Frame). id_of y.word) (same g sh) ∙ sh.names)) a
-      go false q ep eq = quiet i n x (λ g sh. eqb-false (type_of f.word) 0 ep (ap (λ (y : Frame). type_of y.word) (same g sh) ∙ sh.reads)) a
+          Agrees i (suc n) (keeps_of i x f)
+      go true true ep eq =
+          rw (ep, eq) (
+            f,
+            record {
+              m = n;
+              before = omega arith;
+              shows = record { out = es; reads = eqb-true (type_of f.word) 0 ep; names = eqb-true (id_of f.word) i eq };
+              no_later = λ k g lo up sh. omega arith;
+            },
+            refl,
+          )
+      go true false ep eq = rw (ep, eq) (quiet i n x (λ g sh. eqb-false (id_of f.word) i eq (ap (λ (y : Frame). id_of y.word) (same g sh) ∙ sh.names)) a)
+      go false q ep eq = rw ep (quiet i n x (λ g sh. eqb-false (type_of f.word) 0 ep (ap (λ (y : Frame). type_of y.word) (same g sh) ∙ sh.reads)) a)
 
   pub record Agree (n : ℕ) (m : Status) : Type 0 where
     pub heats : Agrees 0 n m.heating
@@ -201,12 +202,12 @@ sure_older (Waits w u) m z = z
 -- what is known stays known
 known_stays : (i : ℕ) (x : Flags) (f : Frame) → unknown_of x ≡ false → unknown_of (keeps_of i x f) ≡ false
 unfolding keeps_of unknown_of
-known_stays i x f z = go (eqb (type_of f.word) read_data) (eqb (id_of f.word) i)
+known_stays i x f z = go (eqb (type_of f.word) read_data) (eqb (id_of f.word) i) refl refl
   where
-    go : (p q : Bool) → unknown_of (cond p (cond q (Known (value_of f.word / 256)) x) x) ≡ false
-    go true true = refl
-    go true false = z
-    go false q = z
+    go : (p q : Bool) → eqb (type_of f.word) read_data ≡ p → eqb (id_of f.word) i ≡ q → unknown_of (keeps_of i x f) ≡ false
+    go true true ep eq = rw (ep, eq)
+    go true false ep eq = rw (ep, eq) z
+    go false q ep eq = rw ep z
 
 sure_shows : (o : Queue) (m : Status) (f : Frame) → Sure o m → Sure o (shows_of m f)
 unfolding lacks_of flags_for shows_of

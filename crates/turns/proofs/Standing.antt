@@ -1,7 +1,7 @@
 -- Where a line stands, from its fresh start: it is known at each event since when it rests or which frame is out (`Turned`), who waits
 -- (`Waiting`), and whose frames these are (`Kept`); and a history says no more than one such thing.
 --     known                             at each event
---     latest-once, since-once, talks-on   one frame is the latest; a talk is over once, and the line rests since then; it doesn't rest while it talks
+--     latest_once, since_once, talks_on   one frame is the latest; a talk is over once, and the line rests since then; it doesn't rest while it talks
 -- Assumes nothing.
 use Prim.Native.Nat.{ℕ, zero, suc, ◌<◌}
 use mathlib.Core.Path.{◌≡◌, refl, ap}

@@ -1,5 +1,5 @@
 -- What the history knows of a line's turn: since when it rests, or which frame is out; and that every other frame's talk is over.
---     turn-next   one event
+--     turn_next   one event
 -- Assumes nothing.
 use Prim.Native.Nat.{ℕ, suc, ◌+◌, ◌-◌, ◌≤◌, ◌<◌, min}
 use mathlib.Core.Path.{◌≡◌, refl, ap, ◌∙◌, subst⁻¹}
@@ -137,8 +137,8 @@ module _ (h : Events) (s : Notes) where
     others = λ i z p lt off it. ⊎_elim (λ l. later n i p (o.all i z p l it)) (λ is. absurd (off is)) (last_or i n lt);
   }
 
-  ends : (n : ℕ) (x : Talker) (q : Frame) (a : ℕ) → Mute n → (o : TalkAt n x q a) → Over H o.j q n → RestAt (suc n) 0 x
-  ends n x q a mu o over = record {
+  ends : (n r : ℕ) (x : Talker) (q : Frame) (a : ℕ) → Mute n → r ≡ 0 → (o : TalkAt n x q a) → Over H o.j q n → RestAt (suc n) r x
+  ends n r x q a mu er o over = record {
     c = clock h (suc n);
     since = ended x o.j q n (latest_next n x o.j q mu o.latest) over (omega arith);
     begun = omega arith;
@@ -158,15 +158,15 @@ module _ (h : Events) (s : Notes) where
           (λ off. later n i p (o.others i y p l off on))
           (same_or i o.j)
 
-  silent : (n : ℕ) (x : Talker) (q : Frame) (a : ℕ) → Mute n → h n ≡ tick → 875 ≤ older a → TalkAt n x q a → RestAt (suc n) 0 x
-  silent n x q a mu e ge o =
+  silent : (n r : ℕ) (x : Talker) (q : Frame) (a : ℕ) → Mute n → r ≡ 0 → h n ≡ tick → 875 ≤ older a → TalkAt n x q a → RestAt (suc n) r x
+  silent n r x q a mu er e ge o =
       let cl = clock_suc h n in
       let eb : beat (h n) ≡ 1 = ap beat e in
-      ends n x q a mu o (record { after = o.out.later; by = inr (e, omega (arith, o.out.age, o.out.short)); first = o.out.first })
+      ends n r x q a mu er o (record { after = o.out.later; by = inr (e, omega (arith, o.out.age, o.out.short)); first = o.out.first })
 
-  answered : (n : ℕ) (x : Talker) (q : Frame) (a : ℕ) (b : Frame) → Mute n → ((o : TalkAt n x q a) → AnswersIn h o.j q n b) → TalkAt n x q a →
-      RestAt (suc n) 0 x
-  answered n x q a b mu an o = ends n x q a mu o (record { after = o.out.later; by = inl (b, an o); first = o.out.first })
+  answered : (n r : ℕ) (x : Talker) (q : Frame) (a : ℕ) (b : Frame) → Mute n → r ≡ 0 → ((o : TalkAt n x q a) → AnswersIn h o.j q n b) →
+      TalkAt n x q a → RestAt (suc n) r x
+  answered n r x q a b mu er an o = ends n r x q a mu er o (record { after = o.out.later; by = inl (b, an o); first = o.out.first })
 
   -- ---- every event
 
@@ -185,16 +185,16 @@ module _ (h : Events) (s : Notes) where
   turn_next n (talking l x q a u lt) e es o =
       let eb : beat (h n) ≡ 1 = ap beat e in
       talk_on n x q a (older a) (mute n (ap speaks es)) (λ z. omega arith) (λ z. omega arith) (rw e (deaf tick refl q a)) o
-  turn_next n (relay_silent l q a u ge) e es o = silent n Thermostat q a (mute n (ap speaks es)) e ge o
-  turn_next n (order_silent l q a u ge) e es o = silent n Modbus q a (mute n (ap speaks es)) e ge o
+  turn_next n (relay_silent l q a u ge) e es o = silent n _ Thermostat q a (mute n (ap speaks es)) (omega arith) e ge o
+  turn_next n (order_silent l q a u ge) e es o = silent n _ Modbus q a (mute n (ap speaks es)) (omega arith) e ge o
   turn_next n (relay_held l f) e es o = still n l (thermostat f) e (mute n (ap speaks es)) refl (no_answer_to (thermostat f) l.turn refl) o
   turn_next n (relay_refused l f r) e es o = still n l (thermostat f) e (mute n (ap speaks es)) refl (no_answer_to (thermostat f) l.turn refl) o
   turn_next n (order_answered l q a u f ma lo hi) e es o =
-      answered n Modbus q a f (mute n (ap speaks es)) (λ z. answers h z.j q n a f e ma lo hi z.out) o
+      answered n _ Modbus q a f (mute n (ap speaks es)) (omega arith) (λ z. answers h z.j q n a f e ma lo hi z.out) o
   turn_next n (relay_answered l q a u f ma lo hi eh le) e es o =
-      answered n Thermostat q a f (mute n (ap speaks es)) (λ z. answers h z.j q n a f e ma lo hi z.out) o
+      answered n _ Thermostat q a f (mute n (ap speaks es)) (omega arith) (λ z. answers h z.j q n a f e ma lo hi z.out) o
   turn_next n (relay_lost l q a u f ma lo hi lost) e es o =
-      answered n Thermostat q a f (mute n (ap speaks es)) (λ z. answers h z.j q n a f e ma lo hi z.out) o
+      answered n _ Thermostat q a f (mute n (ap speaks es)) (omega arith) (λ z. answers h z.j q n a f e ma lo hi z.out) o
   turn_next n (boiler_refused l f r un) e es o = still n l (boiler f) e (mute n (ap speaks es)) refl un o
   turn_next n (order_lacking l w lack) e es o = still n l (order w) e (mute n (ap speaks es)) refl (no_answer_to (order w) l.turn refl) o
   turn_next n (order_taken l w has free) e es o = still n l (order w) e (mute n (ap speaks es)) refl (no_answer_to (order w) l.turn refl) o

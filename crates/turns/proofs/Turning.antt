@@ -21,7 +21,7 @@ use Rattle.turns.specs.declared.Queue.TheVariants as queue
 use Rattle.turns.specs.Turns.{older, none_held, waits}
 use Rattle.turns.specs.Events.{Event, tick, beat, Events, sent, note_of}
 use Rattle.turns.specs.History.{line_at, said_at, notes}
-use Rattle.turns.specs.Scene.{Last, nobody, Waits}
+use Rattle.turns.specs.Scene.{Last, Waits}
 use Rattle.turns.specs.Talks.{Rested, Turns}
 use Rattle.turns.proofs.Clock.{clock_suc}
 use Rattle.turns.proofs.Happens.{own, RelayFirst, OrderFirst, Happens, passing, resting, relay_sent, order_sent, talking, relay_silent, happens}

@@ -1,5 +1,5 @@
 -- What the history knows of who waits: a frame is held exactly if the thermostat waits, and an order exactly if Modbus does.
---     waiting-next   one event
+--     waiting_next   one event
 -- Assumes nothing.
 use Prim.Native.Nat.{ℕ, suc, ◌<◌}
 use mathlib.Core.Path.{◌≡◌, sym, ap, ◌∙◌}
@@ -20,7 +20,7 @@ use Rattle.turns.specs.declared.Queue.{Queue}
 use Rattle.turns.specs.declared.Queue.TheVariants.{Nothing, Waits}
 use Rattle.turns.specs.declared.Status.{Status}
 use Rattle.turns.specs.Turns.{older, held_older, order_older, line_older, ended_of, none_held, waits, under_way}
-use Rattle.turns.specs.Events.{Event, order, Events, Notes}
+use Rattle.turns.specs.Events.{Event, Events, Notes}
 use Rattle.turns.specs.Events.{Note, nothing, held, sent, passed, dropped, accepted, exception, answer, no_answer, refused, note_of}
 use Rattle.turns.specs.Scene.{Comes}
 use Rattle.turns.specs.Scene as scene

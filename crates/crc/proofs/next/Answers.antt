@@ -1,0 +1,18 @@
+-- `crc::next` meets its contract: a bit more goes out, and the rest give what they gave.
+-- Assumes nothing.
+use Rattle.std.proofs.Common.{◌≡◌, ℕ, suc, ◌+◌, ◌-◌, ◌/◌, sym, ap, ◌∙◌, arith}
+use Rattle.std.specs.Int.Bits.{bit_xor}
+use Rattle.crc.specs.Crc.{crc_bits}
+use Rattle.crc.proofs.next.Goals as goal
+
+pub loop-k-preserved : goal.loop-k-preserved
+unfolding crc_bits
+loop-k-preserved c =
+    let x = c.loop-k.c in
+    let k = c.loop-k.k in
+    let left : 8 - k ≡ suc (8 - (k + 1)) = omega arith in (
+      omega arith,
+      ap (λ (y : ℕ). crc_bits (8 - (k + 1)) (bit_xor (x / 2) y)) c.feedback.ensures
+          ∙ ap (λ (n : ℕ). crc_bits n x) (sym left)
+          ∙ c.loop-k.invariant.1,
+    )

@@ -1,0 +1,11 @@
+-- What is left of the slice still makes of the line what the whole makes of the first.
+-- Assumes nothing.
+use Rattle.std.proofs.Common.{length, drop, ◌-◌, ◌≡◌, ◌≤◌}
+use Rattle.text.specs.Text.{puts}
+use Rattle.text.proofs.Text.put.Given as goal
+
+abbrev pub invariant-loop-i : goal.invariant-loop-i
+invariant-loop-i l = (l.i ≤ length l.s) × (puts l.t (drop l.i l.s) ≡ puts l.initial.t l.s)
+
+abbrev pub decreases-loop-i : goal.decreases-loop-i
+decreases-loop-i l = length l.s - l.i
