@@ -34,7 +34,7 @@ use Rattle.promises.specs.Parts.{Part, nothing, goes, tells, takes, excepts, end
 use Rattle.promises.specs.Four.{inside_of, ticks_of, said_of}
 use Rattle.promises.specs.Settle.{settled_in, settled_of, after_tick, after_boiler, still_of, plain_of, tell_of, writes_of}
 use Rattle.promises.specs.Entries.{Does, gives, tick_of, thermostat_of, boiler_step, boiler_of, taken_of, replied, asked_of, lack_of, asks_of, read_of, message_of}
-use Rattle.promises.specs.Inputs.{Input, message, Inputs, Gift}
+use Rattle.promises.specs.Inputs.{Input, Inputs, Gift}
 use Rattle.promises.specs.History.{next, gift_of, box_at, given}
 use Rattle.promises.specs.Rewrapped.{SameInput, ticks, thermostats, boilers, messages, SameInputs, uncounted, SameSaid, Rewrapped}
 use Rattle.promises.proofs.Unjudged.{tick_gift, move_gift, either}

@@ -205,8 +205,8 @@ record Asked (W : Wrapping) (t : ℕ) (r : Request) : Type 0 where
   is_order : reads W (W.wraps t (body_of_request r)) ≡ Accepted o
   verdict : reading_verdict (Accepted o) ≡ asked_by r
 
-asked_by : {W : Wrapping} → Lawful W → (t : ℕ) (r : Request) → Fits r → Asked W t r
-asked_by {W} law t r fits =
+as_asked : {W : Wrapping} → Lawful W → (t : ℕ) (r : Request) → Fits r → Asked W t r
+as_asked {W} law t r fits =
     let x = order_in r.row r.unit r.offset r.value in
     let is_order = sym (reading_back (reads W (W.wraps t (body_of_request r)))) ∙ ap reading (as_sent law t r fits) ∙ x.1 in
     record { o = x.0; is_order = is_order; verdict = sym (ap reading_verdict is_order) ∙ as_sent law t r fits }
@@ -264,10 +264,10 @@ module _ {W : Wrapping} (law : Lawful W) (h : Inputs) (bytewise : Bytewise h) wh
 
   -- the order that a request asks, with the transaction that is read off its message
   abbrev asking : (t : ℕ) (r : Request) → Fits r → Asking
-  asking t r fits = record { order = (asked_by law t r fits).o; transaction = W.transaction (W.wraps t (body_of_request r)) }
+  asking t r fits = record { order = (as_asked law t r fits).o; transaction = W.transaction (W.wraps t (body_of_request r)) }
 
   asks : (t : ℕ) (r : Request) (fits : Fits r) {x : Input} → Brings (W.wraps t (body_of_request r)) x → AsksFor W (asking t r fits) x
-  asks t r fits came = record { bytes = W.wraps t (body_of_request r); brings = came; order = (asked_by law t r fits).is_order; own = refl }
+  asks t r fits came = record { bytes = W.wraps t (body_of_request r); brings = came; order = (as_asked law t r fits).is_order; own = refl }
 
   way : (n : ℕ) → RequestWaits W h s n → UnderWay H n
   way n w =
@@ -295,7 +295,7 @@ module _ {W : Wrapping} (law : Lawful W) (h : Inputs) (bytewise : Bytewise h) wh
     x = asking t r fits
 
     verdict : reading_verdict (Accepted x.order) ≡ asked_by r
-    verdict = (asked_by law t r fits).verdict
+    verdict = (as_asked law t r fits).verdict
 
     -- its replies at once, byte by byte
     bytes : (part : ReplyBodies → List ℕ) → RepliesAtOnce (s k) (W.wraps x.transaction (part (replies x.order 0))) →

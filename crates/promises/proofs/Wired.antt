@@ -12,7 +12,7 @@ use Rattle.modbus.specs.Becomes.{Bytes}
 use Rattle.modbus.specs.Arrives.{Arrives}
 use Rattle.modbus.specs.Departs.{in_form}
 use Rattle.modbus.specs.Wire.{body_of}
-use Rattle.modbus.specs.Wrapping.{wrapping_of, reads, writes}
+use Rattle.modbus.specs.Wrapping.{wrapping_of, reads}
 use Rattle.modbus.proofs.Arrives.{only}
 use Rattle.modbus.proofs.Verdicts.{one_reading}
 use Rattle.modbus.proofs.Wrapping.{lawful}

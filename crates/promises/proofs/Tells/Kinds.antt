@@ -2,7 +2,7 @@
 -- Assumes nothing.
 use Prim.Native.Nat.{ℕ}
 use mathlib.Core.Path.{◌≡◌, refl, sym, ap, ◌∙◌, subst, subst⁻¹}
-use mathlib.Core.Logic.{◌⊎◌, inl, inr, ⊎_elim}
+use mathlib.Core.Logic.{inl, inr, ⊎_elim}
 use mathlib.Core.Bool.{Bool, true, false, cond}
 use mathlib.Core.List.{List, [], ◌∷◌}
 use lib.ListN.{length}
@@ -35,7 +35,7 @@ use Rattle.promises.specs.History.{gift_of, box_at, given}
 use Rattle.promises.specs.Projection.{events_on, Says}
 use Rattle.promises.specs.Demand1.{silences, checks_of}
 use Rattle.promises.specs.Tells.{refusals, May, refuses, tick_quiet, tick_ends, thermostat_held, boiler_passed, boiler_dropped, boiler_ends}
-use Rattle.promises.specs.Tells.{message_taken, message_replied, AtOnce}
+use Rattle.promises.specs.Tells.{message_taken, message_replied}
 use Rattle.promises.proofs.Numbers.{inside_four}
 use Rattle.promises.proofs.Entries.Laws.{tick_yes, message_yes}
 use Rattle.promises.proofs.Entries.Cases.{tick_end}
@@ -62,6 +62,8 @@ module _ {W : Wrapping} (law : Lawful W) (g : Gateway) where
   of_message b room n r q (here e) = inl refl
   of_message b room n (reading.Silent m) q (later e (here off)) = inr (silent law b m q)
   of_message b room n (reading.Silent m) q (later e (later on fails)) = clash cc
+  of_message b room n (reading.AtOnce r) q (later e x) = elim x [ ]
+  of_message b room n (reading.Accepted o) q (later e x) = elim x [ ]
 
   number_of : (x : Input) (n : ℕ) → Fails (checks_of W g x) n → Among (refusals W x) n
   number_of (tick room) n fails = among fails
