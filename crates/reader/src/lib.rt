@@ -1,4 +1,6 @@
 // Manchester samples to frames: one sample a byte, 0 idle or 1 active, every 50 µs.
+#![tactic(auto)]
+
 ghost use Rattle.std.specs.Prelude.{◌≡◌, ◌+◌, ◌<◌, min, max};
 ghost use Rattle.std.specs.Bool.{beq};
 ghost use Rattle.reader.specs.Reads.{reader_of, step_is};
@@ -8,12 +10,12 @@ ghost use Rattle.samples.specs.Reading.{fresh_of, goes_on, gives, waited_of, sta
 pub use samples::{Answer, Middle, Phase};
 use word::Frame;
 
-#[derive(Drop)]
+#[derive(Clone, Copy)]
 pub struct Reader {
     pub phase: Phase,
 }
 
-#[derive(Drop)]
+#[derive(Clone, Copy)]
 pub struct Step {
     pub reader: Reader,
     pub answer: Answer,
@@ -49,6 +51,7 @@ impl Reader {
         }
     }
 
+    #[tactic(auto, unfolding(samples::specs::Reading::step_of))]
     pub fn step(mut self, sample: u8) -> Step
         ensures { step_is result ≡ step_of (reader_of self) sample }
     {
@@ -91,6 +94,7 @@ fn answered(a: Answer) -> Step
     }
 }
 
+#[tactic(auto, unfolding(samples::specs::Reading::waited_of))]
 fn waited(n: u8, active: bool) -> Phase
     ensures { result ≡ waited_of n active }
 {
@@ -107,6 +111,7 @@ fn waited(n: u8, active: bool) -> Phase
     }
 }
 
+#[tactic(auto, unfolding(samples::specs::Reading::start_of))]
 fn started(before: u8, active: bool) -> Step
     ensures { step_is result ≡ start_of (before + 1) active }
 {
@@ -159,6 +164,7 @@ fn farther(m: Middle, distance: u8, active: bool, other: bool) -> Step
     }))
 }
 
+#[tactic(auto, unfolding(samples::specs::Reading::next_of))]
 fn between(m: Middle, active: bool) -> Step
     ensures { step_is result ≡ next_of m (m.distance + 1) active }
 {
@@ -241,6 +247,7 @@ fn measured(f: Frame, distance: u8) -> Frame
 
 // A middle edge to the level `active`, so far from the one before. The 34th ends the frame; an earlier one is the word's next bit, below
 // those before it.
+#[tactic(auto, unfolding(samples::specs::Reading::middle_of))]
 fn at_middle(m: Middle, distance: u8, active: bool) -> Step
     ensures { step_is result ≡ middle_of m distance active }
 {

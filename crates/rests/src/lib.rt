@@ -1,5 +1,7 @@
 // Whether a line, or each of the four, has nothing to do. The box passes over such lines in a tick, and a caller may pass over the ticks of a
 // box that has four of them: nothing changes in them but the time.
+#![tactic(auto)]
+
 ghost use Rattle.std.specs.Prelude.{◌≡◌};
 ghost use Rattle.line.specs.Reads.{as_line};
 ghost use Rattle.turns.specs.Idle.{idle_of, all_idle};
@@ -7,6 +9,7 @@ ghost use Rattle.rests.specs.Reads.{at};
 
 use line::{Line, Queue, Slot, Turn};
 
+#[tactic(auto, unfolding(turns::specs::Idle::idle_of))]
 pub fn idle(line: Line) -> bool
     ensures { result ≡ idle_of (as_line line) }
 {

@@ -1,4 +1,6 @@
 // The master's own status (02, Ask 2): what a line remembers of it, whether a query has one to send, and the word of a query with it.
+#![tactic(auto)]
+
 ghost use Rattle.std.specs.Prelude.{◌≡◌};
 ghost use Rattle.turns.specs.Status.{exchanges_of, keeps_of, shows_of, flags_for, lacks_of, byte_of, status_word, word_by};
 
@@ -6,6 +8,7 @@ use turns::{Flags, Query, Status};
 use word::{Built, Frame, build, id_of, type_of, value_of};
 
 // Whether the query is a status question: a read alone with id 0 or 70.
+#[tactic(auto, unfolding(turns::specs::Status::exchanges_of))]
 fn exchanges(query: Query) -> bool
     ensures { result ≡ exchanges_of query }
 {
@@ -19,6 +22,7 @@ fn exchanges(query: Query) -> bool
     id == 70
 }
 
+#[tactic(auto, unfolding(turns::specs::Status::keeps_of))]
 fn keeps(id: u8, flags: Flags, frame: Frame) -> Flags
     ensures { result ≡ keeps_of id flags frame }
 {
@@ -34,6 +38,7 @@ fn keeps(id: u8, flags: Flags, frame: Frame) -> Flags
 }
 
 // What goes out for the thermostat is its status from then on, if it is one.
+#[tactic(auto, unfolding(turns::specs::Status::shows_of))]
 pub fn shows(status: Status, frame: Frame) -> Status
     ensures { result ≡ shows_of status frame }
 {
@@ -45,6 +50,7 @@ pub fn shows(status: Status, frame: Frame) -> Status
     }
 }
 
+#[tactic(auto, unfolding(turns::specs::Status::flags_for))]
 fn flags_for(status: Status, id: u8) -> Flags
     ensures { result ≡ flags_for status id }
 {
@@ -54,6 +60,7 @@ fn flags_for(status: Status, id: u8) -> Flags
 }
 
 // Whether the query is a status question, and there is no status to send.
+#[tactic(auto, unfolding(turns::specs::Status::lacks_of, turns::specs::Status::unknown_of))]
 pub fn lacks(status: Status, query: Query) -> bool
     ensures { result ≡ lacks_of status query }
 {
@@ -67,6 +74,7 @@ pub fn lacks(status: Status, query: Query) -> bool
     }
 }
 
+#[tactic(auto, unfolding(turns::specs::Status::byte_of))]
 fn byte(flags: Flags) -> u8
     ensures { result ≡ byte_of flags }
 {
@@ -77,6 +85,7 @@ fn byte(flags: Flags) -> u8
 }
 
 // READ-DATA with the id and the high byte, low byte 0.
+#[tactic(auto, unfolding(turns::specs::Status::status_word))]
 fn status_word(id: u8, high: u8) -> u32
     ensures { result ≡ status_word id high }
 {
@@ -88,6 +97,7 @@ fn status_word(id: u8, high: u8) -> u32
 }
 
 // The word of a query, when it goes out.
+#[tactic(auto, unfolding(turns::specs::Status::word_by))]
 pub fn word_by(status: Status, query: Query) -> u32
     ensures { result ≡ word_by status query }
 {

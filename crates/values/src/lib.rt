@@ -1,4 +1,6 @@
 // The meaning of a frame's 16 data bits: the typed value of an id's bits, by the id's kind, and the bits of a typed value.
+#![tactic(auto)]
+
 mod real;
 mod signed;
 
@@ -7,7 +9,7 @@ ghost use Rattle.ids.specs.Ids.{kind_of};
 ghost use Rattle.values.specs.Typed.{read_as, BitsOf};
 
 // A typed value. A pair has its high byte first.
-#[derive(Drop)]
+#[derive(Clone, Copy)]
 pub enum Typed {
     Real(f32),
     S16(i16),
@@ -18,12 +20,13 @@ pub enum Typed {
 }
 
 // The 16 bits of a typed value, or the number of the refusal.
-#[derive(Drop)]
+#[derive(Clone, Copy)]
 pub enum Back {
     Bits(u16),
     Refused(u8),
 }
 
+#[tactic(auto, unfolding(crate::specs::Typed::read_as))]
 fn read_as(kind: u8, raw: u16) -> Typed
     ensures { result ≡ read_as kind raw }
 {

@@ -1,4 +1,6 @@
 // A word as samples: 680 of them, into a room that the caller lends.
+#![tactic(auto)]
+
 ghost use Rattle.std.specs.Prelude.{◌≡◌, ◌<◌, get_or};
 ghost use Rattle.samples.specs.Written.{frame_bits, samples_of, written_of, room_after};
 
