@@ -1,4 +1,6 @@
 // Modbus messages in either form: what becomes of one, silence, a reply at once or an order for a line; and what its reply brings back.
+#![tactic(auto)]
+
 mod wrappings;
 
 ghost use Rattle.std.specs.Prelude.{◌≡◌};

@@ -7,6 +7,7 @@ use places::pair_at;
 use requests::read;
 
 // Length, checksum, and the body before it.
+#[tactic(auto, unfolding(modbus::specs::Wrapping::reads))]
 pub(crate) fn serial(message: &[u8]) -> Reading
     ensures { result ≡ reads serial message.now }
 {
@@ -24,6 +25,7 @@ pub(crate) fn serial(message: &[u8]) -> Reading
 }
 
 // Length, protocol, the length field, and the body behind them.
+#[tactic(auto, unfolding(modbus::specs::Wrapping::reads))]
 pub(crate) fn tcp(message: &[u8]) -> Reading
     ensures { result ≡ reads tcp message.now }
 {

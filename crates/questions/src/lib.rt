@@ -1,4 +1,6 @@
 // The word of an order's question, as it goes out on the line.
+#![tactic(auto)]
+
 ghost use Rattle.std.specs.Prelude.{◌≡◌};
 ghost use Rattle.modbus.specs.Mapping.{type_number, word_of};
 

@@ -6,6 +6,7 @@ use crate::exception;
 use modbus::{Form, Order, Reply};
 
 // The exception of an UNKNOWN-DATAID, else of a DATA-INVALID.
+#[tactic(auto, unfolding(modbus::specs::Outcomes::code_of))]
 fn refused(o: Order, t: u8) -> Reply
     ensures { result ≡ exception_of o (code_of t) }
 {
@@ -15,6 +16,7 @@ fn refused(o: Order, t: u8) -> Reply
     exception(o, 0x04)
 }
 
+#[tactic(auto, unfolding(modbus::specs::Outcomes::ordinary_of))]
 fn ordinary(o: Order, t: u8, reply: Reply) -> Reply
     ensures { result ≡ ordinary_of o t reply }
 {
@@ -27,6 +29,7 @@ fn ordinary(o: Order, t: u8, reply: Reply) -> Reply
     reply
 }
 
+#[tactic(auto, unfolding(modbus::specs::Outcomes::of_invalid))]
 fn of_invalid(o: Order, t: u8, reply: Reply) -> Reply
     ensures { result ≡ of_invalid o t reply }
 {
@@ -36,6 +39,7 @@ fn of_invalid(o: Order, t: u8, reply: Reply) -> Reply
     reply
 }
 
+#[tactic(auto, unfolding(modbus::specs::Outcomes::normal_of))]
 pub(crate) fn normal(form: Form, o: Order, t: u8, value: u16) -> Reply
     ensures { result ≡ normal_of form o t value }
 {

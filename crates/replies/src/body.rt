@@ -68,6 +68,7 @@ fn eight(a: u8, b: u8, o: u16, v: u16, c: u8, room: &mut [u8]) -> usize
 }
 
 // So many bytes.
+#[tactic(auto, unfolding(modbus::specs::Wire::body_of))]
 pub(crate) fn put(r: Reply, room: &mut [u8]) -> usize
     requires { 8 ≤ length room.old }
     ensures { (result ≡ length (body_of r)) × (room.new ≡ placed (body_of r) room.old) }

@@ -1,4 +1,6 @@
 // Modbus replies: an exception, what an order's outcome becomes, and a reply written into a lent room.
+#![tactic(auto)]
+
 mod answers;
 mod body;
 mod wrappings;
@@ -19,6 +21,7 @@ pub fn exception(o: Order, code: u8) -> Reply
 }
 
 // The reply to an order, from what it came to.
+#[tactic(auto, unfolding(modbus::specs::Outcomes::answer_of))]
 pub fn answer(o: Order, w: Outcome) -> Reply
     ensures { result ≡ answer_of o w }
 {
@@ -32,6 +35,7 @@ pub fn answer(o: Order, w: Outcome) -> Reply
 }
 
 // A reply in its form, with the transaction of the message that it answers, in front of a room. (The serial form has none.)
+#[tactic(auto, unfolding(modbus::specs::Wrapping::reply_written, modbus::specs::Wrapping::reply_room, modbus::specs::Wrapping::writes))]
 pub fn write(form: MessageForm, transaction: u16, r: Reply, room: &mut [u8]) -> Written
     ensures { (result ≡ reply_written (wrapping_of form) transaction r room.old) × (room.new ≡ reply_room (wrapping_of form) transaction r room.old) }
 {

@@ -18,6 +18,7 @@ fn common(function: u8) -> bool
     function == 0x10
 }
 
+#[tactic(auto, unfolding(modbus::specs::Mapping::served_of))]
 pub(crate) fn served(unit: u8, function: u8) -> bool
     ensures { result ≡ served_of unit function }
 {

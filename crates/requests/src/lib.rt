@@ -1,5 +1,7 @@
 // Modbus requests: from the body of a message (unit, function, data), in any wrapping, to what becomes of it: silence, a reply at once or an order for a
 // line, by 01's checks in 01's order.
+#![tactic(auto)]
+
 mod functions;
 mod map;
 mod rows;
@@ -14,6 +16,7 @@ use crate::shape::{formed, says};
 use modbus::Reading;
 use places::byte_at;
 
+#[tactic(auto, unfolding(modbus::specs::Mapping::body_read))]
 pub fn read(body: &[u8]) -> Reading
     ensures { result ≡ body_read body.now }
 {

@@ -64,6 +64,7 @@ fn order(unit: u8, a: Fields, r: Row, t: QuestionType) -> Order
     }
 }
 
+#[tactic(auto, unfolding(modbus::specs::Mapping::ask_of))]
 fn ask(unit: u8, a: Fields, r: Row) -> Reading
     ensures { result ≡ ask_of unit a r }
 {
@@ -81,6 +82,7 @@ pub(crate) fn at_once(unit: u8, function: u8, code: u8) -> Reading
 }
 
 // Whether a request with both sides has them at two offsets.
+#[tactic(auto, unfolding(modbus::specs::Mapping::unlike_of))]
 fn unlike(a: Fields) -> bool
     ensures { result ≡ unlike_of a }
 {
@@ -93,6 +95,7 @@ fn unlike(a: Fields) -> bool
     a.from != a.to
 }
 
+#[tactic(auto, unfolding(modbus::specs::Mapping::mapped_of))]
 pub(crate) fn mapped(unit: u8, a: Fields) -> Reading
     ensures { result ≡ mapped_of unit a }
 {
@@ -106,6 +109,7 @@ pub(crate) fn mapped(unit: u8, a: Fields) -> Reading
 }
 
 // Unit 5 has one register to read, the version, and none to write.
+#[tactic(auto, unfolding(modbus::specs::Mapping::own_of))]
 pub(crate) fn own(a: Fields) -> Reading
     ensures { result ≡ own_of a }
 {

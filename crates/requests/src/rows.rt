@@ -39,6 +39,7 @@ fn on(p: Page, high: u16) -> bool
     }
 }
 
+#[tactic(auto, unfolding(modbus::specs::Mapping::fits_of))]
 fn fits(r: Row, a: Fields) -> bool
     ensures { result ≡ fits_of r a }
 {
@@ -56,6 +57,7 @@ fn fits(r: Row, a: Fields) -> bool
 }
 
 // The first row that fits.
+#[tactic(auto, unfolding(modbus::specs::Mapping::first_of))]
 pub(crate) fn find(a: Fields) -> Found
     ensures { result ≡ first_of mapping_rows a }
 {

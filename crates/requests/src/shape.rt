@@ -6,6 +6,7 @@ ghost use Rattle.modbus.specs.Shape.{read_formed, many_formed, both_formed, form
 use modbus::shape::Fields;
 use places::{byte_at, pair_at};
 
+#[tactic(auto, unfolding(modbus::specs::Shape::read_formed))]
 fn read_formed(b: &[u8]) -> bool
     ensures { result ≡ read_formed b.now }
 {
@@ -15,6 +16,7 @@ fn read_formed(b: &[u8]) -> bool
     pair_at(b, 4) == 1
 }
 
+#[tactic(auto, unfolding(modbus::specs::Shape::many_formed))]
 fn many_formed(b: &[u8]) -> bool
     ensures { result ≡ many_formed b.now }
 {
@@ -27,6 +29,7 @@ fn many_formed(b: &[u8]) -> bool
     pair_at(b, 4) == 1
 }
 
+#[tactic(auto, unfolding(modbus::specs::Shape::both_formed))]
 fn both_formed(b: &[u8]) -> bool
     ensures { result ≡ both_formed b.now }
 {
@@ -49,6 +52,7 @@ fn both_formed(b: &[u8]) -> bool
 }
 
 // Exact length and byte count, then counts.
+#[tactic(auto, unfolding(modbus::specs::Shape::formed_of))]
 pub(crate) fn formed(function: u8, b: &[u8]) -> bool
     ensures { result ≡ formed_of function b.now }
 {
@@ -95,6 +99,7 @@ fn write_fields(function: u8, to: u16, value: u16, message: u16) -> Fields
     }
 }
 
+#[tactic(auto, unfolding(modbus::specs::Shape::request_fields))]
 pub(crate) fn says(function: u8, b: &[u8]) -> Fields
     ensures { result ≡ request_fields function b.now }
 {
