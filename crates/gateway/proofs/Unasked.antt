@@ -6,7 +6,7 @@ use mathlib.Core.List.{[], ◌∷◌}
 use Prim.Native.Nat.{ℕ}
 use denote.Enum.Declared.{tag_of}
 use Rattle.word.proofs.Clash.{clash}
-use types.Run.{OneOf, miss}
+use types.Run.{OneOf, hit, miss}
 use Rattle.modbus.specs.declared.Reading.{Reading}
 use Rattle.modbus.specs.declared.Reading.TheVariants.{Silent, AtOnce, Accepted}
 use Rattle.modbus.specs.contracts.Reading as reading
@@ -35,6 +35,16 @@ unfolding able_by
 not_asked m (Silent n) k = refl
 not_asked m (AtOnce x) k = refl
 not_asked m (Accepted o) k = absurd (miss (0 ∷ 1 ∷ []) 2 tt k)
+
+-- of the variants that are no order, and of an order under way
+pub unaccepted : (r : Reading) → ((o : Order) → r ≡ Accepted o → ⊥) → OneOf (0 ∷ 1 ∷ []) (tag_of reading.the_type r)
+unaccepted (Silent n) never = hit (0 ∷ 1 ∷ []) 0 tt
+unaccepted (AtOnce x) never = hit (0 ∷ 1 ∷ []) 1 tt
+unaccepted (Accepted o) never = absurd (never o refl)
+
+pub waiting : (a : Asked) (p : Asking) → a ≡ Waits p → OneOf (1 ∷ []) (tag_of asked.the_type a)
+waiting Nothing p e = clash cc
+waiting (Waits q) p e = hit (1 ∷ []) 1 tt
 
 module _ (W : Wrapping) (t : ℕ) (g : Gateway) where
   -- the reading r, and what `able_of` makes of it
