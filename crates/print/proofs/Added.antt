@@ -12,7 +12,7 @@ use lib.ListN.{length, take, drop, get_or, length-append, length-take}
 use lib.Seq.{paste, take_all, take_at, length-take-le, drop-cons}
 use Rattle.text.specs.declared.Text.{Text}
 use Rattle.text.specs.Text.{empty_text, puts, says}
-use Rattle.print.specs.Page.{Page, page, collected, put, added, leaves, all_added, all_leave, in_aRow}
+use Rattle.print.specs.Page.{Page, page, collected, put, added, leaves, all_added, all_leave, in_a_row}
 
 module _ (bytes : List ℕ) (used : ℕ) (l : List ℕ) where
   -- no page has room
@@ -101,16 +101,16 @@ module _ (d : List ℕ) (used : ℕ) (l : List ℕ) (u : used ≤ length d) wher
 
 -- of many lines none is lost, none comes twice and none comes before an earlier one
 pub none_lost : (p : Page) (ls : List (List ℕ)) → p.used ≤ length p.bytes →
-    all_leave p ls ++ collected (all_added p ls) ≡ collected p ++ in_aRow ls
-unfolding all_leave all_added in_aRow
+    all_leave p ls ++ collected (all_added p ls) ≡ collected p ++ in_a_row ls
+unfolding all_leave all_added in_a_row
 none_lost p [] u = sym (append-nil (collected p))
 none_lost p (l ∷ ls) u =
     let k = kept p.bytes p.used l u in
     append_assoc (leaves p l) (all_leave (added p l) ls) (collected (all_added (added p l) ls))
     ∙ ap (λ (x : List ℕ). leaves p l ++ x) (none_lost (added p l) ls k.1)
-    ∙ sym (append_assoc (leaves p l) (collected (added p l)) (in_aRow ls))
-    ∙ ap (λ (x : List ℕ). x ++ in_aRow ls) k.0
-    ∙ append_assoc (collected p) l (in_aRow ls)
+    ∙ sym (append_assoc (leaves p l) (collected (added p l)) (in_a_row ls))
+    ∙ ap (λ (x : List ℕ). x ++ in_a_row ls) k.0
+    ∙ append_assoc (collected p) l (in_a_row ls)
 
 -- lines in two parts
 pub all_append : (p : Page) (a b : List (List ℕ)) → all_added p (a ++ b) ≡ all_added (all_added p a) b

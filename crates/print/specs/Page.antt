@@ -40,6 +40,6 @@ all_leave p [] = []
 all_leave p (l ∷ ls) = leaves p l ++ all_leave (added p l) ls
 
 -- lines, one behind the other
-unfoldable pub in_aRow : List (List ℕ) → List ℕ
-in_aRow [] = []
-in_aRow (l ∷ ls) = l ++ in_aRow ls
+unfoldable pub in_a_row : List (List ℕ) → List ℕ
+in_a_row [] = []
+in_a_row (l ∷ ls) = l ++ in_a_row ls

@@ -1,32 +1,35 @@
 // Standard output for the programs: a line of text in one write, or lines that are collected on a lent page and written together. No
-// contract can say what a call of C's writes.
-ghost use Rattle.std.specs.Prelude.{◌+◌, ◌≤◌, min, ◌≡◌, length, take};
+// contract can say what a call of the system's writes. An error is the one of the write that failed.
+#![tactic(auto)]
+
+ghost use Rattle.std.specs.Prelude.{◌+◌, ◌≤◌, min, ◌≡◌, length, take, IfOk, OnErr};
 ghost use Rattle.std.proofs.Math.Seq.{paste};
 ghost use Rattle.text.specs.Text.{says};
 ghost use Rattle.print.specs.Page.{page as page_of, added};
 
-use libc::STDOUT_FILENO;
+use std::io;
 use text::Text;
 
-fn write(bytes: &[u8], len: usize) {
+fn write<P: Print>(rt: &P, bytes: &[u8], len: usize) -> io::Result<()> {
     if len <= bytes.len() {
-        io::write_all(STDOUT_FILENO, &bytes[..len]);
+        return rt.write_all(&bytes[..len]);
     }
+    Ok(())
 }
 
 // An array behind a reference: its type says its length.
-fn write_array(bytes: &[u8; 120], len: usize) {
-    write(bytes, len);
+fn write_array<P: Print>(rt: &P, bytes: &[u8; 120], len: usize) -> io::Result<()> {
+    write(rt, bytes, len)
 }
 
-pub fn print(t: Text) {
+pub fn print<P: Print>(rt: &P, t: Text) -> io::Result<()> {
     let bytes = t.bytes;
-    write_array(&bytes, t.len);
+    write_array(rt, &bytes, t.len)
 }
 
 // What a page holds: its first `used` bytes. Where it holds nothing, nothing is called.
-pub fn flush(page: &[u8], used: usize) {
-    write(page, used);
+pub fn flush<P: Print>(rt: &P, page: &[u8], used: usize) -> io::Result<()> {
+    write(rt, page, used)
 }
 
 fn at_most(n: usize, all: usize) -> usize
@@ -37,8 +40,10 @@ fn at_most(n: usize, all: usize) -> usize
 
 // Bytes at a place of a page; gives the place behind them.
 fn copy(page: &mut [u8], from: usize, bytes: &[u8], n: usize) -> usize
-    requires { (from + n ≤ length page.old) × (n ≤ length bytes.now) }
-    ensures { (result ≡ from + n) × (page.new ≡ paste page.old from bytes.now n) }
+    requires from_bound { from + n ≤ length page.old }
+    requires n_bound { n ≤ length bytes.now }
+    ensures place { result ≡ from + n }
+    ensures bytes { page.new ≡ paste page.old from bytes.now n }
 {
     let mut i = 0;
     while i < n {
@@ -48,33 +53,48 @@ fn copy(page: &mut [u8], from: usize, bytes: &[u8], n: usize) -> usize
     from + n
 }
 
-fn add_bytes(page: &mut [u8], used: usize, bytes: &[u8], len: usize) -> usize
-    ensures { page_of page.new result ≡ added (page_of page.old used) (take len bytes.now) }
+fn add_bytes<P: Print>(
+    rt: &P,
+    page: &mut [u8],
+    used: usize,
+    bytes: &[u8],
+    len: usize,
+) -> io::Result<usize>
+    ensures ok { IfOk result (λ n. page_of page.new n ≡ added (page_of page.old used) (take len bytes.now)) }
+    ensures err { OnErr result (page.new ≡ page.old) }
 {
     let n = at_most(len, bytes.len());
     if page.len() < n {
-        flush(page, used);
-        write(bytes, n);
-        return 0;
+        flush(rt, page, used)?;
+        write(rt, bytes, n)?;
+        return Ok(0);
     }
     if page.len() - n < used {
-        flush(page, used);
-        return copy(page, 0, bytes, n);
+        flush(rt, page, used)?;
+        return Ok(copy(page, 0, bytes, n));
     }
-    copy(page, used, bytes, n)
+    Ok(copy(page, used, bytes, n))
 }
 
-fn add_array(page: &mut [u8], used: usize, bytes: &[u8; 120], len: usize) -> usize
-    ensures { page_of page.new result ≡ added (page_of page.old used) (take len bytes.now) }
+fn add_array<P: Print>(
+    rt: &P,
+    page: &mut [u8],
+    used: usize,
+    bytes: &[u8; 120],
+    len: usize,
+) -> io::Result<usize>
+    ensures ok { IfOk result (λ n. page_of page.new n ≡ added (page_of page.old used) (take len bytes.now)) }
+    ensures err { OnErr result (page.new ≡ page.old) }
 {
-    add_bytes(page, used, bytes, len)
+    add_bytes(rt, page, used, bytes, len)
 }
 
 // A line behind what a page holds; gives how much of the page is used then. A page that has no room for the line is written first, and so
-// is a line that has no room on any page.
-pub fn add(page: &mut [u8], used: usize, t: Text) -> usize
-    ensures { page_of page.new result ≡ added (page_of page.old used) (says t) }
+// is a line that has no room on any page. Where a write fails the page stays as it was.
+pub fn add<P: Print>(rt: &P, page: &mut [u8], used: usize, t: Text) -> io::Result<usize>
+    ensures ok { IfOk result (λ n. page_of page.new n ≡ added (page_of page.old used) (says t)) }
+    ensures err { OnErr result (page.new ≡ page.old) }
 {
     let bytes = t.bytes;
-    add_array(page, used, &bytes, t.len)
+    add_array(rt, page, used, &bytes, t.len)
 }
