@@ -1,6 +1,6 @@
 -- The numbers of a script: decimal digits, and pairs of hexadecimal ones. A byte is its number in ASCII.
 -- Assumes nothing: these are definitions.
-use Rattle.std.specs.Prelude.{ℕ, ◌+◌, ◌-◌, ◌*◌, ◌/◌, ◌%◌, Bool, true, false, cond, ◌&&◌, List, [], ◌∷◌, leb, ltb, eqb, length}
+use Rattle.std.specs.Prelude.{ℕ, ◌+◌, ◌-◌, ◌*◌, ◌/◌, ◌%◌, Bool, true, cond, ◌&&◌, List, [], ◌∷◌, leb, ltb, eqb, length}
 use Rattle.places.specs.Bytes.{word_at}
 use Rattle.script.specs.declared.Hex.{Hex}
 use Rattle.script.specs.declared.Hex.TheVariants as hex

@@ -8,7 +8,7 @@
 --     fresh tcp
 -- An empty line and one that begins with `#` are skipped. Any other line is wrong.
 -- Assumes nothing: these are definitions.
-use Rattle.std.specs.Prelude.{ℕ, ◌+◌, ◌/◌, Bool, true, false, cond, ◌&&◌, List, [], ◌∷◌, ◌++◌, ltb, eqb, length, drop}
+use Rattle.std.specs.Prelude.{ℕ, ◌/◌, Bool, true, false, cond, ◌&&◌, List, [], ◌∷◌, ◌++◌, ltb, eqb, length, drop}
 use Rattle.word.specs.declared.Frame.{Frame}
 use Rattle.modbus.specs.declared.MessageForm.TheVariants.{Serial, Tcp}
 use Rattle.script.specs.declared.Event.{Event}

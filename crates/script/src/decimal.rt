@@ -2,19 +2,20 @@
 ghost use Rattle.std.specs.Prelude.{◌≡◌};
 ghost use Rattle.script.specs.Digits.{bounded_of, byte_of};
 
-#[derive(Drop)]
+#[derive(Clone, Copy)]
 pub(crate) enum Number {
     Value(u32),
     Nothing,
 }
 
-#[derive(Drop)]
+#[derive(Clone, Copy)]
 pub(crate) enum Byte {
     Of(u8),
     Nothing,
 }
 
 // One digit or more, and at most `most`.
+#[tactic(auto, unfolding(crate::specs::Digits::bounded_of))]
 pub(crate) fn number_of(s: &[u8], most: u32) -> Number
     ensures { result ≡ bounded_of most s.now }
 {
@@ -42,6 +43,7 @@ pub(crate) fn number_of(s: &[u8], most: u32) -> Number
 }
 
 // A number of one byte, 0 to 255.
+#[tactic(auto, unfolding(crate::specs::Digits::byte_of))]
 pub(crate) fn byte_of(s: &[u8]) -> Byte
     ensures { result ≡ byte_of s.now }
 {

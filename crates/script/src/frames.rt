@@ -7,19 +7,20 @@ use crate::{Hex, field_end, word};
 use word::Frame;
 
 // The smallest and the largest distance.
-#[derive(Drop)]
+#[derive(Clone, Copy)]
 pub(crate) enum Span {
     Of(u8, u8),
     Nothing,
 }
 
-#[derive(Drop)]
+#[derive(Clone, Copy)]
 pub(crate) enum Framing {
     Of(Frame),
     Nothing,
 }
 
 // The number in the first field.
+#[tactic(auto, unfolding(crate::specs::Frames::first_of))]
 pub(crate) fn first(s: &[u8]) -> Byte
     ensures { result ≡ first_of s.now }
 {
@@ -28,6 +29,7 @@ pub(crate) fn first(s: &[u8]) -> Byte
 }
 
 // Where the rest begins, behind the first space; the end, where there is none.
+#[tactic(auto, unfolding(crate::specs::Frames::rest_of))]
 pub(crate) fn rest(s: &[u8]) -> usize
     ensures { (result ≤ length s.now) × (drop result s.now ≡ rest_of s.now) }
 {
@@ -36,6 +38,7 @@ pub(crate) fn rest(s: &[u8]) -> usize
 }
 
 // Two numbers, and a space between.
+#[tactic(auto, unfolding(crate::specs::Frames::span_of))]
 fn span_of(s: &[u8]) -> Span
     ensures { result ≡ span_of s.now }
 {
@@ -50,6 +53,7 @@ fn span_of(s: &[u8]) -> Span
 }
 
 // What stands behind a word.
+#[tactic(auto, unfolding(crate::specs::Frames::behind_of))]
 fn behind(s: &[u8]) -> Span
     ensures { result ≡ behind_of s.now }
 {
@@ -59,6 +63,7 @@ fn behind(s: &[u8]) -> Span
     span_of(&s[1..])
 }
 
+#[tactic(auto, unfolding(crate::specs::Frames::framing_of))]
 pub(crate) fn frame_of(s: &[u8]) -> Framing
     ensures { result ≡ framing_of s.now }
 {

@@ -1,4 +1,6 @@
 // A line of a script, read into an event. The bytes of a message go into a room that the caller lends.
+#![tactic(auto)]
+
 mod decimal;
 mod frames;
 mod pairs;
@@ -28,7 +30,7 @@ use places::word_at;
 use word::Frame;
 
 // What a line of the script says. The bytes of a message stand in the room that was lent for them.
-#[derive(Drop)]
+#[derive(Clone, Copy)]
 pub enum Event {
     Skip,
     Wrong,
@@ -41,7 +43,7 @@ pub enum Event {
 }
 
 // A word of eight hexadecimal digits.
-#[derive(Drop)]
+#[derive(Clone, Copy)]
 enum Hex {
     Word(u32),
     Nothing,
@@ -78,6 +80,7 @@ fn field_end(s: &[u8]) -> usize
     at
 }
 
+#[tactic(auto, unfolding(crate::specs::Digits::hex_word_of))]
 fn word(s: &[u8]) -> Hex
     ensures { result ≡ hex_word_of s.now }
 {
@@ -91,6 +94,7 @@ fn word(s: &[u8]) -> Hex
     Hex::Word(word_at(&bytes, 0))
 }
 
+#[tactic(auto, unfolding(crate::specs::Lines::tick_line))]
 fn ticks(s: &[u8]) -> Event
     ensures { result ≡ tick_line s.now }
 {
@@ -103,6 +107,7 @@ fn ticks(s: &[u8]) -> Event
     Event::Ticks(n)
 }
 
+#[tactic(auto, unfolding(crate::specs::Lines::room_line))]
 fn room(s: &[u8]) -> Event
     ensures { result ≡ room_line s.now }
 {
@@ -124,6 +129,7 @@ fn from(boiler: bool, n: u8, f: Frame) -> Event
 }
 
 // A line's number and a frame.
+#[tactic(auto, unfolding(crate::specs::Lines::frame_line))]
 fn frame(s: &[u8], boiler: bool) -> Event
     ensures { result ≡ frame_line boiler s.now }
 {
@@ -152,6 +158,7 @@ fn message(s: &[u8], bytes: &mut [u8]) -> Event
 }
 
 // Whether the line is these bytes.
+#[tactic(auto, unfolding(crate::specs::Lines::is_line))]
 fn whole(line: &[u8], bytes: &[u8]) -> bool
     ensures { result ≡ is_line bytes.now line.now }
 {
@@ -162,6 +169,7 @@ fn whole(line: &[u8], bytes: &[u8]) -> bool
 }
 
 // A line without a field that can differ: a message of no bytes, or a new box; any other is wrong.
+#[tactic(auto, unfolding(crate::specs::Lines::alone_of))]
 fn alone(line: &[u8]) -> Event
     ensures { result ≡ alone_of line.now }
 {
@@ -178,6 +186,7 @@ fn alone(line: &[u8]) -> Event
 }
 
 // A line that lends no bytes to a message.
+#[tactic(auto, unfolding(crate::specs::Lines::plain_line))]
 fn plain(line: &[u8]) -> Event
     ensures { result ≡ plain_line line.now }
 {

@@ -4,6 +4,7 @@ ghost use Rattle.script.specs.Digits.{digit_of, all_hex, pairs_of, fits, fitting
 ghost use Rattle.script.specs.Lines.{placed};
 
 // The value of a digit; 16 for any other byte.
+#[tactic(auto, unfolding(crate::specs::Digits::digit_of))]
 fn digit(b: u8) -> u8
     ensures { result ≡ digit_of b }
 {
@@ -51,6 +52,7 @@ fn pair(s: &[u8], i: usize) -> u8
 }
 
 // The bytes in front of a room, if these are pairs of digits and the room has so many; else nothing is written.
+#[tactic(auto, unfolding(crate::specs::Digits::fits))]
 pub(crate) fn pairs(s: &[u8], room: &mut [u8]) -> bool
     ensures { (result ≡ fits (length room.old) s.now)
         × (room.new ≡ placed (fitting (length room.old) s.now) room.old) }

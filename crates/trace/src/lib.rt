@@ -1,4 +1,6 @@
 // The lines of a trace: the box's time in ticks, and what was sent or told.
+#![tactic(auto)]
+
 ghost use Rattle.std.specs.Prelude.{◌≡◌};
 ghost use Rattle.text.specs.Text.{empty_text, puts};
 ghost use Rattle.trace.specs.Lines.{unmeasured_of, on_line, alone as alone_of, straight_of, framed as framed_of, in_hex, replied, outcome_of, refused_of, sent_of, told_of};
@@ -8,6 +10,7 @@ use text::Text;
 use word::Frame;
 
 // A line's beginning: the time, a word, and the number of a line of the box.
+#[tactic(auto, unfolding(crate::specs::Lines::on_line))]
 fn on_line(time: u64, word: &[u8], line: u8) -> Text
     ensures { result ≡ puts empty_text (on_line time word.now line) }
 {
@@ -15,6 +18,7 @@ fn on_line(time: u64, word: &[u8], line: u8) -> Text
 }
 
 // Both numbers are 0, as those of an order's own frame are.
+#[tactic(auto, unfolding(crate::specs::Lines::unmeasured_of))]
 fn unmeasured(frame: Frame) -> bool
     ensures { result ≡ unmeasured_of frame }
 {
@@ -26,6 +30,7 @@ fn unmeasured(frame: Frame) -> bool
 }
 
 // How straight a frame's edges were, behind its word.
+#[tactic(auto, unfolding(crate::specs::Lines::straight_of, text::specs::Text::puts))]
 fn straight(t: Text, frame: Frame) -> Text
     ensures { result ≡ puts t (straight_of frame) }
 {
@@ -36,6 +41,7 @@ fn straight(t: Text, frame: Frame) -> Text
     s.push(b' ').decimal(frame.longest as u64)
 }
 
+#[tactic(auto, unfolding(crate::specs::Lines::framed))]
 fn framed(time: u64, word: &[u8], line: u8, frame: Frame) -> Text
     ensures { result ≡ puts empty_text (framed_of time word.now line frame) }
 {
@@ -43,6 +49,7 @@ fn framed(time: u64, word: &[u8], line: u8, frame: Frame) -> Text
     straight(t, frame).push(b'\n')
 }
 
+#[tactic(auto, unfolding(crate::specs::Lines::alone))]
 fn alone(time: u64, word: &[u8], line: u8) -> Text
     ensures { result ≡ puts empty_text (alone_of time word.now line) }
 {
@@ -50,6 +57,7 @@ fn alone(time: u64, word: &[u8], line: u8) -> Text
 }
 
 // Bytes as pairs of digits.
+#[tactic(auto, unfolding(text::specs::Text::puts, crate::specs::Lines::in_hex))]
 fn bytes(t: Text, s: &[u8]) -> Text
     ensures { result ≡ puts t (in_hex s.now) }
 {
@@ -63,6 +71,7 @@ fn bytes(t: Text, s: &[u8]) -> Text
 }
 
 // A reply: the first bytes of a room.
+#[tactic(auto, unfolding(crate::specs::Lines::replied))]
 fn reply(time: u64, room: &[u8], count: usize) -> Text
     ensures { result ≡ puts empty_text (replied time count room.now) }
 {
@@ -73,6 +82,7 @@ fn reply(time: u64, room: &[u8], count: usize) -> Text
     bytes(start, room)
 }
 
+#[tactic(auto, unfolding(crate::specs::Lines::outcome_of))]
 fn outcome(time: u64, room: &[u8], count: usize, wait: u16) -> Text
     ensures { result ≡ puts empty_text (outcome_of time count room.now wait) }
 {
@@ -82,6 +92,7 @@ fn outcome(time: u64, room: &[u8], count: usize, wait: u16) -> Text
         .push(b'\n')
 }
 
+#[tactic(auto, unfolding(crate::specs::Lines::refused_of))]
 fn refused(time: u64, number: u8) -> Text
     ensures { result ≡ puts empty_text (refused_of time number) }
 {
@@ -93,6 +104,7 @@ fn refused(time: u64, number: u8) -> Text
 }
 
 // A frame that goes out on a line.
+#[tactic(auto, unfolding(crate::specs::Lines::sent_of))]
 pub fn sent(time: u64, line: u8, frame: Frame) -> Text
     ensures { result ≡ puts empty_text (sent_of time line frame) }
 {
@@ -100,6 +112,7 @@ pub fn sent(time: u64, line: u8, frame: Frame) -> Text
 }
 
 // What the box tells, of this line where it is one's; a reply stands in the room. A quiet tick has no line.
+#[tactic(auto, unfolding(crate::specs::Lines::told_of, text::specs::Text::puts))]
 pub fn told(time: u64, line: u8, t: Told, room: &[u8]) -> Text
     ensures { result ≡ puts empty_text (told_of time line t room.now) }
 {
