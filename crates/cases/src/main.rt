@@ -1,36 +1,40 @@
 // cases: what the code gives for the tried numbers of 01 that a person would look up first, a line each.
+#![tactic(auto)]
+
+use std::io;
 use text::Text;
 use values::Typed;
 use word::Built;
 
 // A word from its fields, as P1 to P4 print it.
-fn built(number: u8, t: u8, id: u8, value: u16) {
+fn built<P: Print>(rt: &P, number: u8, t: u8, id: u8, value: u16) -> io::Result<()> {
     let line = Text::empty().push(b'P').decimal(number as u64).push(b' ');
     match word::build(t, id, value) {
-        Built::Word(w) => print::print(line.hex(w, 8).push(b'\n')),
-        Built::Refused(n) => print::print(line.put(b"refused ").decimal(n as u64).push(b'\n')),
+        Built::Word(w) => print::print(rt, line.hex(w, 8).push(b'\n')),
+        Built::Refused(n) => print::print(rt, line.put(b"refused ").decimal(n as u64).push(b'\n')),
     }
 }
 
 // The float bits of a raw number of id 25, as P5 to P7 print them.
-fn real(number: u8, raw: u16) {
+fn real<P: Print>(rt: &P, number: u8, raw: u16) -> io::Result<()> {
     let line = Text::empty().push(b'P').decimal(number as u64).push(b' ');
     match values::typed_of(25, raw) {
         Typed::Real(x) => {
             if x == x {
-                print::print(line.hex(f32::to_bits(x), 8).push(b'\n'));
+                return print::print(rt, line.hex(f32::to_bits(x), 8).push(b'\n'));
             }
+            Ok(())
         }
-        _ => print::print(line.put(b"no real\n")),
+        _ => print::print(rt, line.put(b"no real\n")),
     }
 }
 
-fn main() {
-    built(1, 0, 25, 0);
-    built(2, 1, 1, 0x3c00);
-    built(3, 7, 25, 0);
-    built(4, 6, 25, 0);
-    real(5, 0x3280);
-    real(6, 0xff00);
-    real(7, 0x8000);
+fn main(rt: HostRuntime) -> io::Result<()> {
+    built(&rt, 1, 0, 25, 0)?;
+    built(&rt, 2, 1, 1, 0x3c00)?;
+    built(&rt, 3, 7, 25, 0)?;
+    built(&rt, 4, 6, 25, 0)?;
+    real(&rt, 5, 0x3280)?;
+    real(&rt, 6, 0xff00)?;
+    real(&rt, 7, 0x8000)
 }

@@ -3,93 +3,100 @@
 // that begins with = (serial) or ~ (TCP) is written into rooms of 15, 16 and 20 bytes. For an accepted order the line, the word that goes out and the replies follow: to an
 // acknowledgement with the value 3280, to types 6 and 7, to no answer, of a read alone where there is no status to send, and where another order
 // waits.
+#![tactic(auto)]
+
 ghost use Rattle.std.specs.Prelude.{◌≤◌, length};
 
-use libc::{STDIN_FILENO, STDOUT_FILENO};
 use modbus::{MessageForm, Order, Outcome, QuestionType, Reading, Reply, Written};
+use std::io;
 
-fn say(text: &[u8]) {
-    io::write_all(STDOUT_FILENO, text);
+fn say<P: Print>(rt: &P, text: &[u8]) -> io::Result<()> {
+    rt.write_all(text)
 }
 
-fn end() {
-    say(b"\n");
+fn end<P: Print>(rt: &P) -> io::Result<()> {
+    say(rt, b"\n")
 }
 
 fn digit(d: u8) -> u8 {
     if d < 10 { d + 48 } else { d % 16 + 55 }
 }
 
-// A byte as two digits, after a space.
-fn byte(b: u8) {
-    let three = [b' ', digit(b / 16), digit(b % 16)];
-    say(&three);
+fn decimal<P: Print>(rt: &P, n: u64) -> io::Result<()> {
+    print!(rt; "{n}")
 }
 
-fn bytes(s: &[u8]) {
+// A byte as two digits, after a space.
+fn byte<P: Print>(rt: &P, b: u8) -> io::Result<()> {
+    let three = [b' ', digit(b / 16), digit(b % 16)];
+    say(rt, &three)
+}
+
+fn bytes<P: Print>(rt: &P, s: &[u8]) -> io::Result<()> {
     let mut i: usize = 0;
     while i < s.len() {
-        byte(s[i]);
+        byte(rt, s[i])?;
         i += 1;
     }
-    end();
+    end(rt)
 }
 
 // What a reply takes from its message.
-#[derive(Drop)]
+#[derive(Clone, Copy)]
 struct Envelope {
     form: MessageForm,
     transaction: u16,
 }
 
-fn reply(e: Envelope, r: Reply) {
+fn reply<P: Print>(rt: &P, e: Envelope, r: Reply) -> io::Result<()> {
     let mut room = [0xeeu8; 16];
     let form = e.form;
     match replies::write(form, e.transaction, r, &mut room) {
         Written::Count(n) => {
             if n <= 16 {
-                bytes(&room[..n]);
+                return bytes(rt, &room[..n]);
             }
+            Ok(())
         }
-        Written::Refused(_) => say(b" refused\n"),
+        Written::Refused(_) => say(rt, b" refused\n"),
     }
 }
 
-fn outcome(e: Envelope, o: Order, t: u8) {
-    say(b" ");
-    io::print_decimal(STDOUT_FILENO, t as u64);
-    reply(e, replies::answer(o, Outcome::Answer(t, 0x3280)));
+fn outcome<P: Print>(rt: &P, e: Envelope, o: Order, t: u8) -> io::Result<()> {
+    say(rt, b" ")?;
+    decimal(rt, t as u64)?;
+    reply(rt, e, replies::answer(o, Outcome::Answer(t, 0x3280)))
 }
 
-fn word(w: u32) {
-    byte((w / 0x100_0000) as u8);
-    byte((w / 0x1_0000 % 256) as u8);
-    byte((w / 256 % 256) as u8);
-    byte((w % 256) as u8);
-    end();
+fn word<P: Print>(rt: &P, w: u32) -> io::Result<()> {
+    byte(rt, (w / 0x100_0000) as u8)?;
+    byte(rt, (w / 0x1_0000 % 256) as u8)?;
+    byte(rt, (w / 256 % 256) as u8)?;
+    byte(rt, (w % 256) as u8)?;
+    end(rt)
 }
 
-fn order(e: Envelope, o: Order) {
-    say(b"order ");
-    io::print_decimal(STDOUT_FILENO, o.line as u64);
+fn order<P: Print>(rt: &P, e: Envelope, o: Order) -> io::Result<()> {
+    say(rt, b"order ")?;
+    decimal(rt, o.line as u64)?;
     let q = o.question;
-    word(questions::word_of(q));
+    word(rt, questions::word_of(q))?;
     let t = q.t;
     match t {
-        QuestionType::ReadData => outcome(e, o, 4),
-        QuestionType::WriteData => outcome(e, o, 5),
+        QuestionType::ReadData => outcome(rt, e, o, 4)?,
+        QuestionType::WriteData => outcome(rt, e, o, 5)?,
         QuestionType::InvalidData => {}
     }
-    outcome(e, o, 6);
-    outcome(e, o, 7);
-    say(b" none");
-    reply(e, replies::answer(o, Outcome::NoAnswer));
+    outcome(rt, e, o, 6)?;
+    outcome(rt, e, o, 7)?;
+    say(rt, b" none")?;
+    reply(rt, e, replies::answer(o, Outcome::NoAnswer))?;
     if q.alone {
-        say(b" lacking");
-        reply(e, replies::exception(o, 0x04));
+        say(rt, b" lacking")?;
+        reply(rt, e, replies::exception(o, 0x04))?;
     }
-    say(b" busy");
-    reply(e, replies::exception(o, 0x06));
+    say(rt, b" busy")?;
+    reply(rt, e, replies::exception(o, 0x06))
 }
 
 fn envelope_of(form: MessageForm, s: &[u8]) -> Envelope {
@@ -99,65 +106,65 @@ fn envelope_of(form: MessageForm, s: &[u8]) -> Envelope {
     }
 }
 
-fn message(form: MessageForm, s: &[u8]) {
+fn message<P: Print>(rt: &P, form: MessageForm, s: &[u8]) -> io::Result<()> {
     let e = envelope_of(form, s);
     match messages::request(form, s) {
         Reading::Silent(n) => {
-            say(b"silent ");
-            io::print_decimal(STDOUT_FILENO, n as u64);
-            end();
+            say(rt, b"silent ")?;
+            decimal(rt, n as u64)?;
+            end(rt)
         }
         Reading::AtOnce(r) => {
-            say(b"reply");
-            reply(e, r);
+            say(rt, b"reply")?;
+            reply(rt, e, r)
         }
-        Reading::Accepted(o) => order(e, o),
+        Reading::Accepted(o) => order(rt, e, o),
     }
 }
 
-fn number(w: Written) {
+fn number<P: Print>(rt: &P, w: Written) -> io::Result<()> {
     match w {
         Written::Count(k) => {
-            say(b" count ");
-            io::print_decimal(STDOUT_FILENO, k as u64);
+            say(rt, b" count ")?;
+            decimal(rt, k as u64)
         }
         Written::Refused(k) => {
-            say(b" refusal ");
-            io::print_decimal(STDOUT_FILENO, k as u64);
+            say(rt, b" refusal ")?;
+            decimal(rt, k as u64)
         }
     }
 }
 
 // A room of n bytes, of 20 that are shown.
-fn roomed(e: Envelope, r: Reply, n: usize) {
+fn roomed<P: Print>(rt: &P, e: Envelope, r: Reply, n: usize) -> io::Result<()> {
     if 20 < n {
-        return;
+        return Ok(());
     }
     let mut room = [0xeeu8; 20];
     let form = e.form;
-    number(replies::write(form, e.transaction, r, &mut room[..n]));
-    bytes(&room);
+    number(rt, replies::write(form, e.transaction, r, &mut room[..n]))?;
+    bytes(rt, &room)
 }
 
-fn rooms(form: MessageForm, s: &[u8]) {
+fn rooms<P: Print>(rt: &P, form: MessageForm, s: &[u8]) -> io::Result<()> {
     let e = envelope_of(form, s);
     match messages::request(form, s) {
         Reading::AtOnce(r) => {
-            roomed(e, r, 15);
-            roomed(e, r, 16);
-            roomed(e, r, 20);
+            roomed(rt, e, r, 15)?;
+            roomed(rt, e, r, 16)?;
+            roomed(rt, e, r, 20)
         }
-        Reading::Silent(_) => end(),
-        Reading::Accepted(_) => end(),
+        Reading::Silent(_) => end(rt),
+        Reading::Accepted(_) => end(rt),
     }
 }
 
-fn checksum(s: &[u8]) {
+fn checksum<P: Print>(rt: &P, s: &[u8]) -> io::Result<()> {
     let c = crc::checksum(s);
-    say(b"checksum");
-    byte((c % 256) as u8);
-    byte((c / 256) as u8);
-    end();
+    say(rt, b"checksum")?;
+    byte(rt, (c % 256) as u8)?;
+    byte(rt, (c / 256) as u8)?;
+    end(rt)
 }
 
 // A digit's value, or 16.
@@ -211,41 +218,42 @@ fn roomy(mark: u8) -> bool {
     }
 }
 
-fn line(text: &[u8]) {
+fn line<P: Print>(rt: &P, text: &[u8]) -> io::Result<()> {
     if text.len() == 0 {
-        return;
+        return Ok(());
     }
     if text[0] == b'#' {
-        say(text);
-        end();
-        return;
+        say(rt, text)?;
+        return end(rt);
     }
-    let mut room = io::buffer();
+    let mut room = [0u8; 4096];
     let n = parse(text, &mut room);
     let mark = text[0];
     if mark == b'+' {
-        checksum(&room[..n]);
+        checksum(rt, &room[..n])
     } else if roomy(mark) {
-        rooms(form_of(mark), &room[..n]);
+        rooms(rt, form_of(mark), &room[..n])
     } else {
-        message(form_of(mark), &room[..n]);
+        message(rt, form_of(mark), &room[..n])
     }
 }
 
-fn lines(text: &[u8]) {
+fn lines<P: Print>(rt: &P, text: &[u8]) -> io::Result<()> {
     let mut start: usize = 0;
     let mut i: usize = 0;
     while i < text.len() {
         if text[i] == b'\n' {
-            line(&text[start..i]);
+            line(rt, &text[start..i])?;
             start = i + 1;
         }
         i += 1;
     }
+    Ok(())
 }
 
-fn main() {
-    let mut text = io::large_buffer();
-    let n = io::read_full(STDIN_FILENO, &mut text);
-    lines(&text[..n]);
+fn main(rt: HostRuntime) -> io::Result<()> {
+    let mut text = [0u8; 65536];
+    let mut from = rt.stdin();
+    let n = input::read_full(&mut from, &mut text)?;
+    lines(&rt, &text[..n])
 }

@@ -15,11 +15,13 @@
 //   32-63    the message
 //   64-127   eight events of set-up, 8 bytes each: `t`, `h`, `b`, `m` or nothing; the line; smallest and
 //            largest; the word, or for `t` how often
+#![tactic(auto)]
+
 use gateway::{Gateway, MessageForm, Told};
-use libc::STDIN_FILENO;
 use places::{byte_at, word_at};
 use print::print;
 use reader::{Answer, Reader};
+use std::io;
 use text::Text;
 use word::Frame;
 
@@ -235,9 +237,10 @@ fn done(block: &[u8]) -> u32 {
     repeated(block, &block[32..32 + length], n)
 }
 
-fn main() {
+fn main(rt: HostRuntime) -> io::Result<()> {
     let mut block = [0u8; 128];
-    io::read_full(STDIN_FILENO, &mut block);
+    let mut from = rt.stdin();
+    let _read = input::read_full(&mut from, &mut block)?;
     let count = done(&block);
-    print(Text::empty().decimal(count as u64).push(b'\n'));
+    print(&rt, Text::empty().decimal(count as u64).push(b'\n'))
 }

@@ -1,10 +1,10 @@
 -- An answer's line is printed whole, and the lines don't depend on how the samples are cut into blocks.
 -- Assumes nothing.
-use Rattle.std.proofs.Common.{◌≡◌, ℕ, ◌+◌, ◌^◌, ◌<◌, ◌≤◌, List, [], ◌∷◌, ◌++◌, length, get_or, drop, sym, refl, ap, ◌∙◌, ap₂, append_assoc, arith, length-append}
+use Rattle.std.proofs.Common.{◌≡◌, ℕ, ◌+◌, ◌^◌, ◌<◌, ◌≤◌, List, [], ◌∷◌, ◌++◌, length, get_or, take, drop, sym, refl, ap, ◌∙◌, ap₂, append_assoc, arith, length-append}
+use Rattle.std.proofs.Math.Seq.{take_at}
 use Rattle.word.specs.declared.Frame.{Frame as Word}
-use Rattle.text.specs.Text.{empty_text, puts, says, decimal_of, hex_of}
+use Rattle.text.specs.Text.{empty_text, puts, says}
 use Rattle.text.proofs.Puts.{decimal_short, hex_length, says_puts}
-use Rattle.samples.specs.declared.Answer.{Answer}
 use Rattle.samples.specs.declared.Answer.TheVariants.{Frame, Refused}
 use Rattle.samples.specs.Reader.{Reader, Step}
 use Rattle.samples.specs.Reading.{step_of}
@@ -41,6 +41,13 @@ cut index r (x ∷ s) t =
     ap (λ (y : List (List ℕ)). shown_if index (step_of r x).answer ++ y) (cut (next_place index) (step_of r x).reader s t)
     ∙ sym (append_assoc (shown_if index (step_of r x).answer) _ _)
 
+-- a page with the first of some lines
+pub first_added : (p q : Page) (x : List ℕ) (d r a : List (List ℕ)) → x ≡ q.bytes → q ≡ all_added p d → d ++ r ≡ a →
+    (k : ℕ) × (x ≡ (all_added p (take k a)).bytes)
+first_added p q x d r a ex eq e =
+    let firsts : take (length d) a ≡ d = ap (λ (y : List (List ℕ)). take (length d) y) (sym e) ∙ take_at d r (length d) refl in
+    (length d, ex ∙ ap (λ (y : Page). y.bytes) eq ∙ ap (λ (y : List (List ℕ)). (all_added p y).bytes) (sym firsts))
+
 -- a block sample by sample, for `take`
 module _ (s : List ℕ) (i : ℕ) (h : i < length s) where
   pub place_more : (n m : ℕ) → m ≡ next_place n → last_place m (drop (i + 1) s) ≡ last_place n (drop i s)
@@ -51,6 +58,13 @@ module _ (s : List ℕ) (i : ℕ) (h : i < length s) where
     pub reader_more : after_of x.reader (drop (i + 1) s) ≡ after_of r (drop i s)
     unfolding after_of
     reader_more = ap (λ (y : Step). after_of y.reader (drop (i + 1) s)) ex ∙ sym (ap (after_of r) (left_from s i h))
+
+    pub rest_more : (n m : ℕ) → m ≡ next_place n →
+        shown_if n x.answer ++ shown_in m (answers_of x.reader (drop (i + 1) s)) ≡ shown_in n (answers_of r (drop i s))
+    unfolding shown_in answers_of
+    rest_more n m em =
+        ap₂ (λ (y : Step) (k : ℕ). shown_if n y.answer ++ shown_in k (answers_of y.reader (drop (i + 1) s))) ex em
+        ∙ sym (ap (λ (y : List ℕ). shown_in n (answers_of r y)) (left_from s i h))
 
     pub lines_more : (n m : ℕ) (p q : Page) → m ≡ next_place n → q ≡ all_added p (shown_if n x.answer) →
         all_added q (shown_in m (answers_of x.reader (drop (i + 1) s))) ≡ all_added p (shown_in n (answers_of r (drop i s)))

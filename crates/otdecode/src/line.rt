@@ -6,6 +6,7 @@ ghost use Rattle.otdecode.specs.Lines.{shown_of};
 use reader::Answer;
 use text::Text;
 
+#[tactic(auto, unfolding(crate::specs::Lines::shown_of, text::specs::Text::puts))]
 pub(crate) fn line(index: u64, answer: Answer) -> Text
     ensures { result ≡ puts empty_text (shown_of index answer) }
 {

@@ -1,13 +1,12 @@
 -- A line of the list fits the text's room, so what is printed for an id is its line, whole; and the lines of all ids are those of one after
 -- the other.
 -- Assumes nothing.
-use mathlib.Core.Path.{◌≡◌, refl, sym, ap, ◌∙◌}
-use mathlib.Core.List.{List, ◌∷◌, ◌++◌}
+use mathlib.Core.Path.{◌≡◌, sym, ap, ◌∙◌}
 use Prim.Native.Nat.{ℕ, suc, ◌+◌, ◌-◌, ◌≤◌, ◌<◌}
 use native.Mathlib.Omega.{arith}
 use lib.Dec.{eqb}
 use lib.ListN.{length, length-append}
-use Rattle.text.specs.Text.{empty_text, puts, says, decimal_of, hex_of}
+use Rattle.text.specs.Text.{empty_text, puts, says}
 use Rattle.text.proofs.Puts.{decimal_short, hex_length, says_puts}
 use Rattle.print.specs.Page.{Page, all_added}
 use Rattle.print.proofs.Added.{all_append}

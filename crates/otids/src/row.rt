@@ -5,6 +5,7 @@ ghost use Rattle.otids.specs.Lines.{scale_of, mark_of, line_of};
 
 use text::Text;
 
+#[tactic(auto, unfolding(crate::specs::Lines::scale_of))]
 fn scale(t: Text, kind: u8) -> Text
     ensures { result ≡ puts t (scale_of kind) }
 {
@@ -21,6 +22,7 @@ fn mark(t: Text, is: bool, letter: u8) -> Text
     if is { t.push(letter) } else { t.push(b'-') }
 }
 
+#[tactic(auto, unfolding(crate::specs::Lines::line_of, text::specs::Text::puts))]
 pub(crate) fn line(id: u8) -> Text
     ensures { result ≡ puts empty_text (line_of id) }
 {

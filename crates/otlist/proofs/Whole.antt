@@ -4,7 +4,7 @@ use mathlib.Core.Path.{◌≡◌, refl, sym, ap, ap₂, ◌∙◌}
 use mathlib.Core.List.{List, [], ◌∷◌, ◌++◌, append_assoc}
 use Prim.Native.Nat.{ℕ, ◌<◌}
 use native.Mathlib.Omega.{arith}
-use Rattle.print.specs.Page.{in_aRow}
+use Rattle.print.specs.Page.{in_a_row}
 use Rattle.places.specs.Bytes.{pair_at, word_at, quad}
 use Rattle.places.proofs.Place.{word_back}
 use Rattle.otlist.specs.Listing.{listed_of, listing_of}
@@ -18,11 +18,11 @@ Bytes (b ∷ s) = (b < 256) × Bytes s
 
 -- in one block or in many
 joined : (w n : ℕ) (blocks : List (List ℕ)) →
-    printed_for w n blocks ≡ lines_in w n (in_aRow blocks) ++ at_end (last_count n (in_aRow blocks))
-unfolding printed_for in_aRow lines_in last_count
+    printed_for w n blocks ≡ lines_in w n (in_a_row blocks) ++ at_end (last_count n (in_a_row blocks))
+unfolding printed_for in_a_row lines_in last_count
 joined w n [] = refl
 joined w n (s ∷ blocks) =
-    let rest = in_aRow blocks in
+    let rest = in_a_row blocks in
     ap (λ (x : List (List ℕ)). lines_in w n s ++ x) (joined (last_word w s) (last_count n s) blocks)
     ∙ sym (append_assoc (lines_in w n s) (lines_in (last_word w s) (last_count n s) rest) (at_end (last_count (last_count n s) rest)))
     ∙ ap₂ (λ (x : List (List ℕ)) (m : ℕ). x ++ at_end m) (sym (cut w n s rest)) (sym (cut_count n s rest))
@@ -45,5 +45,5 @@ unfolding listing_of
 word_line w s = ap (λ (v : ℕ). listed_of v ∷ listing_of s) (word_back [] [] w)
 
 -- "reads 4-byte words from standard input .. and prints a line each", from a start at which no byte of a word has come
-pub whole : (blocks : List (List ℕ)) → Bytes (in_aRow blocks) → printed_for 0 0 blocks ≡ listing_of (in_aRow blocks)
-whole blocks h = joined 0 0 blocks ∙ one_block 0 (in_aRow blocks) h
+pub whole : (blocks : List (List ℕ)) → Bytes (in_a_row blocks) → printed_for 0 0 blocks ≡ listing_of (in_a_row blocks)
+whole blocks h = joined 0 0 blocks ∙ one_block 0 (in_a_row blocks) h

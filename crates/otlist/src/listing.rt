@@ -6,6 +6,7 @@ ghost use Rattle.otlist.specs.Listing.{signed_decimal, listed_numbers, listed_fi
 
 use text::Text;
 
+#[tactic(auto, unfolding(crate::specs::Listing::signed_decimal, text::specs::Text::puts))]
 fn signed(t: Text, half: u32, n: u32) -> Text
     requires n_bound { n < half + half }
     requires half_bound { half < 0x8000_0000 }
@@ -18,6 +19,7 @@ fn signed(t: Text, half: u32, n: u32) -> Text
     }
 }
 
+#[tactic(auto, unfolding(crate::specs::Listing::listed_numbers))]
 fn numbers(t: Text, kind: u8, v: u16) -> Text
     ensures { result ≡ puts t (listed_numbers kind v) }
 {
@@ -36,6 +38,7 @@ fn numbers(t: Text, kind: u8, v: u16) -> Text
     }
 }
 
+#[tactic(auto, unfolding(crate::specs::Listing::listed_fields))]
 fn fields(t: Text, w: u32) -> Text
     ensures { result ≡ puts t (listed_fields w) }
 {
@@ -49,6 +52,7 @@ fn fields(t: Text, w: u32) -> Text
     numbers(d, kind, value).push(b'\n')
 }
 
+#[tactic(auto, unfolding(crate::specs::Listing::listed_of))]
 pub(crate) fn line(w: u32) -> Text
     ensures { result ≡ puts empty_text (listed_of w) }
 {

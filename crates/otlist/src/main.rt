@@ -1,47 +1,48 @@
 // otlist: reads 4-byte words from standard input, high byte first, and prints a line each.
+#![tactic(auto)]
+
 mod listing;
 mod words;
 
-use libc::STDIN_FILENO;
+use std::io;
+use std::io::Read;
 use words::{Part, add_end, take};
 
 // One read, and the lines of the words that are whole then, written before the next read.
-fn list_some(part: Part) -> Part {
-    let mut block = io::buffer();
-    let mut page = io::buffer();
-    let got = libc::read(STDIN_FILENO, &mut block);
-    let n = io::count(got, &block);
-    let after = take(&block[..n], part, &mut page);
-    print::flush(&page, after.used);
-    Part {
+fn list_some<R: Read, P: Print>(input: &mut R, rt: &P, part: Part) -> io::Result<Part> {
+    let mut block = [0u8; 4096];
+    let mut page = [0u8; 4096];
+    let n = input.read(&mut block)?;
+    let after = take(rt, &block[..n], part, &mut page)?;
+    print::flush(rt, &page, after.used)?;
+    Ok(Part {
         word: after.word,
         count: after.count,
         used: 0,
         more: n != 0,
-    }
+    })
 }
 
-fn end(count: u8) {
-    let mut page = io::buffer();
-    let used = add_end(&mut page, 0, count);
-    print::flush(&page, used);
+fn end<P: Print>(rt: &P, count: u8) -> io::Result<()> {
+    let mut page = [0u8; 4096];
+    let used = add_end(rt, &mut page, 0, count)?;
+    print::flush(rt, &page, used)
 }
 
-// A proved loop has to end, and nothing says that the input does: the turns count down from a number that no run uses up.
-fn main() {
+// A proved loop has to end, and nothing says that the input does: there are more turns than any run uses up.
+fn main(rt: HostRuntime) -> io::Result<()> {
+    let mut input = rt.stdin();
     let mut part = Part {
         word: 0,
         count: 0,
         used: 0,
         more: true,
     };
-    let mut turns = u64::MAX;
-    while turns > 0 {
-        part = list_some(part);
+    for _ in 0..u64::MAX {
+        part = list_some(&mut input, &rt, part)?;
         if !part.more {
-            end(part.count);
-            return;
+            return end(&rt, part.count);
         }
-        turns -= 1;
     }
+    Ok(())
 }

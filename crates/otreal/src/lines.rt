@@ -20,6 +20,7 @@ fn float(bits: u32) -> f32
     f32::from_bits(bits)
 }
 
+#[tactic(auto, unfolding(crate::specs::Lines::line_of))]
 fn answer(back: Back) -> Text
     ensures { result ≡ puts empty_text (line_of (back_value back)) }
 {
@@ -29,6 +30,7 @@ fn answer(back: Back) -> Text
     }
 }
 
+#[tactic(auto, unfolding(crate::specs::Lines::printed_of))]
 pub(crate) fn line(bits: u32) -> Text
     ensures { result ≡ puts empty_text (printed_of bits) }
 {

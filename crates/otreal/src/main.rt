@@ -1,24 +1,30 @@
 // otreal: reads 4-byte float bit patterns from standard input, high byte first, and prints a line each: the 16 bits whose f8.8 real has
 // exactly these float bits, in four hex digits, or the number of the refusal.
+#![tactic(auto)]
+
 mod lines;
 
-use libc::STDIN_FILENO;
 use lines::line;
+use std::io;
+use std::io::Read;
 
 // Reads one pattern, prints its line, and answers whether there may be another.
-fn next() -> bool {
+fn next<R: Read, P: Print>(stdin: &mut R, rt: &P) -> io::Result<bool> {
     let mut bytes = [0u8; 4];
-    if io::read_full(STDIN_FILENO, &mut bytes) < 4 {
-        return false;
+    if input::read_full(stdin, &mut bytes)? < 4 {
+        return Ok(false);
     }
-    print::print(line(places::word_at(&bytes, 0)));
-    true
+    print::print(rt, line(places::word_at(&bytes, 0)))?;
+    Ok(true)
 }
 
-// A proved loop has to end, and nothing says that the input does: the turns count down from a number that no run uses up.
-fn main() {
-    let mut turns = u64::MAX;
-    while turns > 0 && next() {
-        turns -= 1;
+// A proved loop has to end, and nothing says that the input does: there are more turns than any run uses up.
+fn main(rt: HostRuntime) -> io::Result<()> {
+    let mut stdin = rt.stdin();
+    for _ in 0..u64::MAX {
+        if !next(&mut stdin, &rt)? {
+            return Ok(());
+        }
     }
+    Ok(())
 }

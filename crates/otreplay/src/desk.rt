@@ -5,10 +5,11 @@ ghost use Rattle.std.specs.Prelude.{◌≤◌};
 use crate::paper::{happened, ticked};
 use gateway::{Asked, Gateway, MessageForm, Moved, Told};
 use script::Event;
+use std::io;
 
 // The box, its time in ticks, the size of the rooms that are lent to it, how much is held of the script's line under way, and how much of
 // the page is used on which its trace is collected.
-#[derive(Drop)]
+#[derive(Clone, Copy)]
 pub(crate) struct Desk {
     pub gateway: Gateway,
     pub time: u64,
@@ -43,16 +44,16 @@ fn passed(time: u64, told: Told) -> u64 {
     }
 }
 
-fn tick(mut d: Desk, room: &mut [u8], page: &mut [u8]) -> Desk {
+fn tick<P: Print>(rt: &P, mut d: Desk, room: &mut [u8], page: &mut [u8]) -> io::Result<Desk> {
     let t = d.gateway.tick(room);
     let told = t.told;
     let outs = t.outs;
     let next = t.gateway;
     let time = passed(d.time, told);
-    d.paper = ticked(page, d.paper, time, outs, told, room);
+    d.paper = ticked(rt, page, d.paper, time, outs, told, room)?;
     d.time = time;
     d.gateway = next;
-    d
+    Ok(d)
 }
 
 // Whether a tick would change nothing but the time: the box has nothing to do, and its room is large enough.
@@ -70,17 +71,17 @@ fn pass(mut d: Desk, n: u32) -> Desk {
     d
 }
 
-fn ticks(d: Desk, n: u32, room: &mut [u8], page: &mut [u8]) -> Desk {
+fn ticks<P: Print>(rt: &P, d: Desk, n: u32, room: &mut [u8], page: &mut [u8]) -> io::Result<Desk> {
     let mut desk = d;
     let mut left = n;
     while left > 0 {
         if at_rest(desk) {
-            return pass(desk, left);
+            return Ok(pass(desk, left));
         }
-        desk = tick(desk, room, page);
+        desk = tick(rt, desk, room, page)?;
         left -= 1;
     }
-    desk
+    Ok(desk)
 }
 
 // How many ticks an event is.
@@ -149,21 +150,35 @@ fn time_after(e: Event, time: u64) -> u64 {
 }
 
 // An event that is no ticks.
-fn play(mut d: Desk, e: Event, bytes: &[u8], room: &mut [u8], page: &mut [u8]) -> Desk {
+fn play<P: Print>(
+    rt: &P,
+    mut d: Desk,
+    e: Event,
+    bytes: &[u8],
+    room: &mut [u8],
+    page: &mut [u8],
+) -> io::Result<Desk> {
     let m = moved(d.gateway, e, bytes, room);
     let told = m.told;
     let next = m.gateway;
     let asked = next.asked;
-    d.paper = happened(page, d.paper, d.time, line_of(e, asked), e, told, room);
+    d.paper = happened(rt, page, d.paper, d.time, line_of(e, asked), e, told, room)?;
     d.gateway = next;
     d.lent = lent_after(e, d.lent);
     d.time = time_after(e, d.time);
-    d
+    Ok(d)
 }
 
 // An event, with as much of the room lent as the desk says.
-pub(crate) fn happens(d: Desk, e: Event, bytes: &[u8], room: &mut [u8], page: &mut [u8]) -> Desk {
+pub(crate) fn happens<P: Print>(
+    rt: &P,
+    d: Desk,
+    e: Event,
+    bytes: &[u8],
+    room: &mut [u8],
+    page: &mut [u8],
+) -> io::Result<Desk> {
     let n = at_most(d.lent, room.len());
-    let after = ticks(d, ticks_in(e), &mut room[..n], page);
-    play(after, e, bytes, &mut room[..n], page)
+    let after = ticks(rt, d, ticks_in(e), &mut room[..n], page)?;
+    play(rt, after, e, bytes, &mut room[..n], page)
 }

@@ -1,12 +1,16 @@
 // otreplay: a script of events on standard input, a trace on standard output.
+#![tactic(auto)]
+
 mod desk;
 mod paper;
 
-ghost use Rattle.std.specs.Prelude.{◌<◌, ◌≤◌, length};
+ghost use Rattle.std.specs.Prelude.{◌≡◌, ◌<◌, ◌≤◌, length, IfOk, OnErr};
+ghost use Rattle.std.specs.Io.KnownBytes.{Keeps};
 
 use desk::Desk;
-use libc::STDIN_FILENO;
 use script::Event;
+use std::io;
+use std::io::Read;
 
 const LONGEST: usize = 1024;
 
@@ -57,55 +61,70 @@ fn kept(used: usize, ended: bool) -> usize {
 }
 
 // What is held of a line is played, if the line has ended.
-fn held_line(
+fn held_line<P: Print>(
+    rt: &P,
     mut d: Desk,
     used: usize,
     ended: bool,
     held: &[u8],
     room: &mut [u8],
     page: &mut [u8],
-) -> Desk {
+) -> io::Result<Desk> {
     let mut bytes = [0u8; 300];
     let e = event(held, used, ended, &mut bytes);
     d.used = kept(used, ended);
-    desk::happens(d, e, &bytes, room, page)
+    desk::happens(rt, d, e, &bytes, room, page)
 }
 
 // The lines that end in a block, and the part of one behind them.
-fn lines(first: Desk, block: &[u8], held: &mut [u8], room: &mut [u8], page: &mut [u8]) -> Desk {
+fn lines<P: Print>(
+    rt: &P,
+    first: Desk,
+    block: &[u8],
+    held: &mut [u8],
+    room: &mut [u8],
+    page: &mut [u8],
+) -> io::Result<Desk> {
     let mut desk = first;
     let mut from = 0;
     while from < block.len() {
         let to = line_end(block, from);
         let used = append(held, desk.used, &block[from..to]);
-        desk = held_line(desk, used, to < block.len(), held, room, page);
+        desk = held_line(rt, desk, used, to < block.len(), held, room, page)?;
         from = to + 1;
     }
-    desk
+    Ok(desk)
 }
 
 // A block, and what is printed for it, written before the next is read.
-fn play(desk: Desk, block: &[u8], held: &mut [u8], room: &mut [u8]) -> Desk {
-    let mut page = io::buffer();
-    let mut after = lines(desk, block, held, room, &mut page);
-    print::flush(&page, after.paper);
+fn play<P: Print>(
+    rt: &P,
+    desk: Desk,
+    block: &[u8],
+    held: &mut [u8],
+    room: &mut [u8],
+) -> io::Result<Desk> {
+    let mut page = [0u8; 4096];
+    let mut after = lines(rt, desk, block, held, room, &mut page)?;
+    print::flush(rt, &page, after.paper)?;
     after.paper = 0;
-    after
+    Ok(after)
 }
 
 // A last line without an end counts as a line, if it has a byte.
-fn last(desk: Desk, held: &mut [u8], room: &mut [u8]) {
+fn last<P: Print>(rt: &P, desk: Desk, held: &mut [u8], room: &mut [u8]) -> io::Result<()> {
     if 0 < desk.used {
-        play(desk, b"\n", held, room);
+        play(rt, desk, b"\n", held, room)?;
     }
+    Ok(())
 }
 
-// The next bytes of the input, in front of a block; none at its end.
-fn read(block: &mut [u8]) -> usize
-    ensures { result ≤ length block.old }
+// The next bytes of the input, in front of a block; none at its end. A read that fails takes nothing from the input.
+fn read<R: Read>(input: &mut R, block: &mut [u8]) -> io::Result<usize>
+    ensures ok { IfOk result (λ n. n ≤ length block.old) }
+    ensures err { OnErr result (Keeps (R.remaining input.old) (R.remaining input.new) × (length block.new ≡ length block.old)) }
 {
-    let got = libc::read(STDIN_FILENO, block);
-    io::count(got, block)
+    input.read(block)
 }
 
 // The turns that are left after one that read so many bytes: none at the end of the input.
@@ -117,16 +136,17 @@ fn left(turns: u64, n: usize) -> u64
 }
 
 // A proved loop has to end, and nothing says that the input does: the turns count down from a number that no run uses up.
-fn main() {
+fn main(rt: HostRuntime) -> io::Result<()> {
+    let mut input = rt.stdin();
     let mut held = [0u8; LONGEST];
     let mut room = [0u8; 300];
-    let mut block = io::buffer();
+    let mut block = [0u8; 4096];
     let mut desk = desk::fresh();
     let mut turns = u64::MAX;
     while turns > 0 {
-        let n = read(&mut block);
-        desk = play(desk, &block[..n], &mut held, &mut room);
+        let n = read(&mut input, &mut block)?;
+        desk = play(&rt, desk, &block[..n], &mut held, &mut room)?;
         turns = left(turns, n);
     }
-    last(desk, &mut held, &mut room);
+    last(&rt, desk, &mut held, &mut room)
 }

@@ -1,0 +1,10 @@
+-- The measure is the digits left.
+-- Assumes nothing.
+use Rattle.std.proofs.Common.{◌-◌}
+use Rattle.otcost.proofs.number.Given as goal
+
+abbrev pub invariant-loop-i : goal.invariant-loop-i
+invariant-loop-i l = Unit {0}
+
+abbrev pub decreases-loop-i : goal.decreases-loop-i
+decreases-loop-i l = 16 - l.i
