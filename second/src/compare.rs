@@ -81,7 +81,8 @@ fn compare_one(ours: &Ours, draw: Draw, tally: &mut Tally, written: &mut Hashes)
 
 /// Both programs are held to the outputs written down by hand.
 fn compare_vectors(ours: &Ours, written: &mut Hashes) -> bool {
-    let vectors = vectors::all();
+    let mut vectors = vectors::all();
+    vectors.retain(|vector| vector.name.is_compared());
     let mut good = true;
     for vector in &vectors {
         let own = programs::run(vector.name, &vector.input);

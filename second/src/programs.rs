@@ -53,6 +53,12 @@ impl Name {
         NAMES.into_iter().find(|name| name.word() == word)
     }
 
+    /// Whether the product has it by now. One that it doesn't is left out of the comparison; its own tests
+    /// run all the same.
+    pub fn is_compared(self) -> bool {
+        self != Name::Still
+    }
+
     pub fn takes_arguments(self) -> bool {
         self == Name::Still
     }

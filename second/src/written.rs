@@ -24,7 +24,10 @@ impl Hashes {
 impl fmt::Display for Hashes {
     fn fmt(&self, to: &mut fmt::Formatter) -> fmt::Result {
         writeln!(to, "written: {}", self.before)?;
-        writeln!(to, "written by still: {}", self.still)
+        match Name::Still.is_compared() {
+            true => writeln!(to, "written by still: {}", self.still),
+            false => Ok(()),
+        }
     }
 }
 

@@ -29,10 +29,13 @@ fn size(name: Name, round: u64) -> usize {
     }
 }
 
-/// One input for each program, and many small ones for still, which reads one log at a time.
+/// One input for each program that is compared, and many small ones for still, which reads one log at a time.
 pub fn round(seed: u64, round: u64) -> Vec<Draw> {
     let mut all = Vec::new();
     for (place, name) in NAMES.into_iter().enumerate() {
+        if !name.is_compared() {
+            continue;
+        }
         let seed = random::derive(seed, round, place as u64);
         let draws = match name {
             Name::Still => logs::of_round(seed, round),

@@ -2,6 +2,7 @@
 
 use super::entry::Entry;
 use super::{Tally, Thing, KINDS};
+use crate::programs::Name;
 
 /// The shortest and the longest wait an order can have, which both must be seen.
 const SHORTEST_WAIT: u64 = 85;
@@ -50,7 +51,9 @@ impl Tally {
         all.extend(self.fresh_entries());
         all.extend(self.status_entries());
         all.extend(self.carried_entries());
-        all.extend(self.still_entries());
+        if Name::Still.is_compared() {
+            all.extend(self.still_entries());
+        }
         // Not every round has a short tail; a fixed vector always has one.
         let short = self.of(Thing::ShortListed);
         all.push(Entry::shown("listed: short tail", short));
