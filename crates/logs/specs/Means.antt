@@ -1,5 +1,5 @@
--- What a report is, said by what its numbers are and not by how they are found. Two reports that are so of the same readings are equal
--- (`one-report`, proofs/Alone).
+-- What a report is, said by what its numbers are and not by how they are found. That two reports that are so of the same readings are equal
+-- is still to be shown.
 -- Assumes nothing: these are definitions.
 use Rattle.std.specs.Prelude.{◌≡◌, ℕ, ◌+◌, ◌-◌, ◌≤◌, ◌<◌, List, [], ◌∷◌, ◌++◌, ℤ, pos, ◌+ℤ◌, length, get_or, ◌≤ℤ◌}
 use Rattle.logs.specs.Layout.{Reading}

@@ -1,7 +1,6 @@
 -- An answer's line is printed whole, and the lines don't depend on how the samples are cut into blocks.
 -- Assumes nothing.
-use Rattle.std.proofs.Common.{◌≡◌, ℕ, ◌+◌, ◌^◌, ◌<◌, ◌≤◌, List, [], ◌∷◌, ◌++◌, length, get_or, take, drop, sym, refl, ap, ◌∙◌, ap₂, append_assoc, arith, length-append}
-use Rattle.std.proofs.Math.Seq.{take_at}
+use Rattle.std.proofs.Common.{◌≡◌, ℕ, ◌+◌, ◌^◌, ◌<◌, ◌≤◌, List, [], ◌∷◌, ◌++◌, length, get_or, drop, sym, refl, ap, ◌∙◌, ap₂, append_assoc, arith, length-append}
 use Rattle.word.specs.declared.Frame.{Frame as Word}
 use Rattle.text.specs.Text.{empty_text, puts, says}
 use Rattle.text.proofs.Puts.{decimal_short, hex_length, says_puts}
@@ -40,13 +39,6 @@ cut index r [] t = refl
 cut index r (x ∷ s) t =
     ap (λ (y : List (List ℕ)). shown_if index (step_of r x).answer ++ y) (cut (next_place index) (step_of r x).reader s t)
     ∙ sym (append_assoc (shown_if index (step_of r x).answer) _ _)
-
--- a page with the first of some lines
-pub first_added : (p q : Page) (x : List ℕ) (d r a : List (List ℕ)) → x ≡ q.bytes → q ≡ all_added p d → d ++ r ≡ a →
-    (k : ℕ) × (x ≡ (all_added p (take k a)).bytes)
-first_added p q x d r a ex eq e =
-    let firsts : take (length d) a ≡ d = ap (λ (y : List (List ℕ)). take (length d) y) (sym e) ∙ take_at d r (length d) refl in
-    (length d, ex ∙ ap (λ (y : Page). y.bytes) eq ∙ ap (λ (y : List (List ℕ)). (all_added p y).bytes) (sym firsts))
 
 -- a block sample by sample, for `take`
 module _ (s : List ℕ) (i : ℕ) (h : i < length s) where

@@ -5,10 +5,10 @@
 
 mod line;
 
-ghost use Rattle.std.specs.Prelude.{◌≡◌, ℕ, take, IfOk, OnErr};
+ghost use Rattle.std.specs.Prelude.{◌≡◌, IfOk, OnErr};
 ghost use Rattle.samples.specs.Run.{answers_of, after_of};
 ghost use Rattle.reader.specs.Reads.{reader_of};
-ghost use Rattle.print.specs.Page.{page as page_of, all_added};
+ghost use Rattle.print.specs.Page.{page as page_of, all_added, BrokenOff};
 ghost use Rattle.otdecode.specs.Lines.{tells_of, shown_if, shown_in, last_place};
 
 use reader::{Answer, Reader};
@@ -60,10 +60,10 @@ fn take<P: Print>(rt: &P, block: &[u8], place: Place, page: &mut [u8]) -> io::Re
         ≡ all_added
         (page_of page.old place.used)
         (shown_in place.index (answers_of (reader_of place.reader) block.now))) }
-    ensures err { OnErr result ((k : ℕ) × (page.new
-        ≡ (all_added
+    ensures err { OnErr result (BrokenOff
         (page_of page.old place.used)
-        (take k (shown_in place.index (answers_of (reader_of place.reader) block.now)))).bytes)) }
+        (shown_in place.index (answers_of (reader_of place.reader) block.now))
+        page.new) }
 {
     let mut reader = place.reader;
     let mut index = place.index;

@@ -2,6 +2,7 @@
 -- the other.
 -- Assumes nothing.
 use mathlib.Core.Path.{◌≡◌, sym, ap, ◌∙◌}
+use mathlib.Core.List.{◌++◌}
 use Prim.Native.Nat.{ℕ, suc, ◌+◌, ◌-◌, ◌≤◌, ◌<◌}
 use native.Mathlib.Omega.{arith}
 use lib.Dec.{eqb}
@@ -37,6 +38,12 @@ more id p q h e =
     ap (λ (x : Page). all_added x (lines_from (256 - (id + 1)) (id + 1))) e
     ∙ sym (all_append p (line_if id) (lines_from (256 - (id + 1)) (id + 1)))
     ∙ sym (ap (λ (n : ℕ). all_added p (lines_from n id)) left)
+
+pub rest : (id : ℕ) → id < 256 → line_if id ++ lines_from (256 - (id + 1)) (id + 1) ≡ lines_from (256 - id) id
+unfolding lines_from
+rest id h =
+    let left : 256 - id ≡ suc (256 - (id + 1)) = omega arith in
+    sym (ap (λ (n : ℕ). lines_from n id) left)
 
 pub over : (id : ℕ) (p : Page) → 256 ≤ id → all_added p (lines_from (256 - id) id) ≡ p
 unfolding lines_from all_added

@@ -3,8 +3,8 @@
 
 mod row;
 
-ghost use Rattle.std.specs.Prelude.{ℕ, ◌≡◌, ◌<◌, ◌-◌, ◌||◌, length, IfOk, OnErr};
-ghost use Rattle.print.specs.Page.{page as page_of, all_added};
+ghost use Rattle.std.specs.Prelude.{◌≡◌, ◌||◌, IfOk, OnErr};
+ghost use Rattle.print.specs.Page.{page as page_of, all_added, BrokenOff};
 ghost use Rattle.ids.specs.Ids.{readable_of, writable_of};
 ghost use Rattle.otids.specs.Lines.{line_if, lines_from};
 
@@ -27,13 +27,10 @@ fn add_row<P: Print>(rt: &P, page: &mut [u8], used: usize, id: u8) -> io::Result
     Ok(used)
 }
 
-// The lines of all ids, behind what a page holds. Where a write fails, the page holds what came before the line of some id: that line and
-// those behind it are still due.
+// The lines of all ids, behind what a page holds. Where a write fails the page stays as it was after the lines before.
 fn add_rows<P: Print>(rt: &P, page: &mut [u8], before: usize) -> io::Result<usize>
     ensures ok { IfOk result (λ n. page_of page.new n ≡ all_added (page_of page.old before) (lines_from 256 0)) }
-    ensures err { OnErr result (length page.new ≡ length page.old) }
-    ensures err_lines { OnErr result ((n : ℕ) × (id : ℕ) × (id < 256)
-        × (all_added (page_of page.new n) (lines_from (256 - id) id) ≡ all_added (page_of page.old before) (lines_from 256 0))) }
+    ensures err { OnErr result (BrokenOff (page_of page.old before) (lines_from 256 0) page.new) }
 {
     let mut used = before;
     let mut id: u32 = 0;

@@ -31,6 +31,12 @@ module _ (s : List ℕ) (i : ℕ) (h : i < length s) where
   unfolding last_count
   count_more n m e = ap (λ (x : ℕ). last_count x (drop (i + 1) s)) e ∙ sym (ap (last_count n) (left_from s i h))
 
+  pub rest_more : (w v n m : ℕ) → v ≡ word_after w (get_or s i 0) → m ≡ count_after n →
+      line_if m v ++ lines_in v m (drop (i + 1) s) ≡ lines_in w n (drop i s)
+  unfolding lines_in
+  rest_more w v n m ev em =
+      ap₂ (λ (x y : ℕ). line_if y x ++ lines_in x y (drop (i + 1) s)) ev em ∙ sym (ap (lines_in w n) (left_from s i h))
+
   pub lines_more : (w v n m : ℕ) (p q : Page) → v ≡ word_after w (get_or s i 0) → m ≡ count_after n → q ≡ all_added p (line_if m v) →
       all_added q (lines_in v m (drop (i + 1) s)) ≡ all_added p (lines_in w n (drop i s))
   unfolding lines_in

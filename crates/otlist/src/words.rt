@@ -1,6 +1,6 @@
 // The words in a block of bytes, and their lines on a page. A word may have begun in an earlier block and may end in a later one.
-ghost use Rattle.std.specs.Prelude.{ℕ, ◌≡◌, ◌<◌, length, drop, IfOk, OnErr};
-ghost use Rattle.print.specs.Page.{page as page_of, all_added};
+ghost use Rattle.std.specs.Prelude.{◌≡◌, IfOk, OnErr};
+ghost use Rattle.print.specs.Page.{page as page_of, all_added, BrokenOff};
 ghost use Rattle.otlist.specs.Words.{word_after, count_after, line_if, lines_in, last_word, last_count, at_end};
 
 use crate::listing::{line, short};
@@ -45,20 +45,17 @@ fn add_line<P: Print>(
     print::add(rt, page, used, line(word))
 }
 
-// The lines of the words that end in a block. Where a write fails, the page holds what came before some byte of the block: from that byte on
-// all is still due.
+// The lines of the words that end in a block. Where a write fails the page stays as it was after the lines before.
 #[tactic(auto, unfolding(crate::specs::Words::last_word, crate::specs::Words::last_count, crate::specs::Words::lines_in, print::specs::Page::all_added))]
 pub(crate) fn take<P: Print>(rt: &P, block: &[u8], part: Part, page: &mut [u8]) -> io::Result<Part>
     ensures word { IfOk result (λ after. after.word ≡ last_word part.word block.now) }
     ensures count { IfOk result (λ after. after.count ≡ last_count part.count block.now) }
     ensures lines { IfOk result (λ after. page_of page.new after.used
         ≡ all_added (page_of page.old part.used) (lines_in part.word part.count block.now)) }
-    ensures err { OnErr result (length page.new ≡ length page.old) }
-    ensures err_lines { OnErr result ((w : ℕ) × (c : ℕ) × (n : ℕ) × (i : ℕ) × (i < length block.now)
-        × (last_word w (drop i block.now) ≡ last_word part.word block.now)
-        × (last_count c (drop i block.now) ≡ last_count part.count block.now)
-        × (all_added (page_of page.new n) (lines_in w c (drop i block.now))
-        ≡ all_added (page_of page.old part.used) (lines_in part.word part.count block.now))) }
+    ensures err { OnErr result (BrokenOff
+        (page_of page.old part.used)
+        (lines_in part.word part.count block.now)
+        page.new) }
 {
     let mut word = part.word;
     let mut count = part.count;

@@ -122,7 +122,7 @@ fn last<P: Print>(rt: &P, desk: Desk, held: &mut [u8], room: &mut [u8]) -> io::R
 // The next bytes of the input, in front of a block; none at its end. A read that fails takes nothing from the input.
 fn read<R: Read>(input: &mut R, block: &mut [u8]) -> io::Result<usize>
     ensures ok { IfOk result (λ n. n ≤ length block.old) }
-    ensures err { OnErr result (Keeps (R.remaining input.old) (R.remaining input.new) × (length block.new ≡ length block.old)) }
+    ensures err { OnErr result (Keeps (R.remaining input.old) (R.remaining input.new)) }
 {
     input.read(block)
 }

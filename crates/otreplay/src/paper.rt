@@ -1,6 +1,6 @@
 // The trace of an event, on a page.
-ghost use Rattle.std.specs.Prelude.{◌≡◌, ℕ, take, IfOk, OnErr};
-ghost use Rattle.print.specs.Page.{page as page_of, all_added};
+ghost use Rattle.std.specs.Prelude.{◌≡◌, IfOk, OnErr};
+ghost use Rattle.print.specs.Page.{page as page_of, all_added, BrokenOff};
 ghost use Rattle.otreplay.specs.Printed.{sent_if, tick_trace, wrong_of, wrong_if, event_trace};
 
 use gateway::{Out, Outs, Told};
@@ -38,7 +38,7 @@ pub(crate) fn ticked<P: Print>(
     room: &[u8],
 ) -> io::Result<usize>
     ensures ok { IfOk result (λ n. page_of page.new n ≡ all_added (page_of page.old used) (tick_trace time o told room.now)) }
-    ensures err { OnErr result ((k : ℕ) × (page.new ≡ (all_added (page_of page.old used) (take k (tick_trace time o told room.now))).bytes)) }
+    ensures err { OnErr result (BrokenOff (page_of page.old used) (tick_trace time o told room.now) page.new) }
 {
     let one = o.one;
     let two = o.two;
@@ -91,7 +91,7 @@ pub(crate) fn happened<P: Print>(
     room: &[u8],
 ) -> io::Result<usize>
     ensures ok { IfOk result (λ n. page_of page.new n ≡ all_added (page_of page.old used) (event_trace time line e told room.now)) }
-    ensures err { OnErr result ((k : ℕ) × (page.new ≡ (all_added (page_of page.old used) (take k (event_trace time line e told room.now))).bytes)) }
+    ensures err { OnErr result (BrokenOff (page_of page.old used) (event_trace time line e told room.now) page.new) }
 {
     let a = wrong(rt, page, used, e)?;
     print::add(rt, page, a, trace::told(time, line, told, room))

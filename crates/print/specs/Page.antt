@@ -1,6 +1,6 @@
 -- A page on which lines are collected, so that many go out in one write.
 -- Assumes nothing: these are definitions.
-use Rattle.std.specs.Prelude.{ℕ, ◌+◌, ◌-◌, cond, List, [], ◌∷◌, ◌++◌, ltb, length, take, drop}
+use Rattle.std.specs.Prelude.{ℕ, ◌≡◌, ◌+◌, ◌-◌, cond, List, [], ◌∷◌, ◌++◌, ltb, length, take, drop}
 
 -- a page's bytes, and how many of them are used
 pub record Page : Type 0 where
@@ -43,3 +43,7 @@ all_leave p (l ∷ ls) = leaves p l ++ all_leave (added p l) ls
 unfoldable pub in_a_row : List (List ℕ) → List ℕ
 in_a_row [] = []
 in_a_row (l ∷ ls) = l ++ in_a_row ls
+
+-- A page's bytes as they stand where a write failed: as after some of the lines, from the first on, and none of the others.
+abbrev pub BrokenOff : Page → List (List ℕ) → List ℕ → Type 0
+BrokenOff p ls bytes = (k : ℕ) × (bytes ≡ (all_added p (take k ls)).bytes)

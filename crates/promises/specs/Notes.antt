@@ -1,5 +1,5 @@
 -- What the box tells and what goes out, in 01's numbers and values. One definition from each of the code's answers, and none loses anything
--- (`Told-back`, `out_back` of proofs/Notes.antt). The promises speak of notes only.
+-- (`told_back`, `out_back` of proofs/Notes.antt). The promises speak of notes only.
 -- Assumes nothing: these are definitions.
 use Rattle.std.specs.Prelude.{ℕ, Bool, true, false}
 use Rattle.word.specs.declared.Frame.{Frame}

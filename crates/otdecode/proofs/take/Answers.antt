@@ -1,19 +1,19 @@
 -- `otdecode::take` meets its contract: one sample more changes nothing of what is due.
 -- Assumes nothing.
-use Rattle.std.proofs.Common.{◌≤◌, ◌<◌, List, [], ◌++◌, ℕ, length, refl, sym, ap, ◌∙◌, append_assoc, arith}
+use Rattle.std.proofs.Common.{◌≤◌, ◌<◌, List, ℕ, length, refl, sym, ap, ◌∙◌, arith}
 use Rattle.std.proofs.Math.ListN.{drop_of_length-le}
 use Rattle.std.proofs.lemmas.Result.{MatchResult-from_err}
 use Rattle.samples.specs.Run.{answers_of, after_of}
 use Rattle.reader.specs.Reads.{reader_of, step_is}
 use Rattle.print.specs.Page.{page as page_of, all_added}
-use Rattle.print.proofs.Added.{then}
+use Rattle.print.proofs.Broken.{due_all, due_more, due_broken}
 use Rattle.otdecode.specs.Lines.{shown_if, shown_in, last_place}
-use Rattle.otdecode.proofs.Shown.{first_added, reader_more, place_more, rest_more, lines_more}
+use Rattle.otdecode.proofs.Shown.{reader_more, place_more, rest_more, lines_more}
 use Rattle.otdecode.proofs.take.Goals as goal
 
 pub loop-i-init : goal.loop-i-init
 unfolding all_added
-loop-i-init g c = record { reader = refl; index = refl; lines = refl; added = ([], refl, refl) }
+loop-i-init g c = record { reader = refl; index = refl; lines = refl; added = due_all _ _ }
 
 pub loop-i-preserved : goal.loop-i-preserved
 loop-i-preserved g c =
@@ -23,16 +23,11 @@ loop-i-preserved g c =
     let r = reader_of l.reader in
     let x = step_is c.step-step.result in
     let ex = c.step-step.ensures in
-    let a = l.invariant.added in
-    let one = shown_if l.index c.step-step.result.answer in record {
+    record {
       reader = reader_more s l.i here r x ex ∙ l.invariant.reader;
       index = place_more s l.i here l.index _ refl ∙ l.invariant.index;
       lines = lines_more s l.i here r x ex l.index _ (page_of l.page l.used) _ refl c.in_ok-used.ensures.ok ∙ l.invariant.lines;
-      added = (
-        a.0 ++ one,
-        append_assoc a.0 one _ ∙ ap (λ (y : List (List ℕ)). a.0 ++ y) (rest_more s l.i here r x ex l.index _ refl) ∙ a.1,
-        then _ _ _ a.0 one a.2 c.in_ok-used.ensures.ok,
-      );
+      added = due_more _ _ _ _ _ (shown_if l.index c.step-step.result.answer) _ l.invariant.added (rest_more s l.i here r x ex l.index _ refl) c.in_ok-used.ensures.ok;
     }
 
 pub returns-clause-reader : goal.returns-clause-reader
@@ -56,6 +51,5 @@ returns-clause-lines g c =
 
 pub returns-in_err-used-clause-err : goal.returns-in_err-used-clause-err
 returns-in_err-used-clause-err g c =
-    let a = c.loop-i.invariant.added in
     MatchResult-from_err c.from_residual.result _ _ c.from_residual.ensures.0
-    (λ e. first_added _ (page_of c.loop-i.page c.loop-i.used) _ a.0 _ _ c.in_err-used.ensures.err a.2 a.1)
+    (λ e. due_broken _ (page_of c.loop-i.page c.loop-i.used) _ _ _ c.loop-i.invariant.added c.in_err-used.ensures.err)

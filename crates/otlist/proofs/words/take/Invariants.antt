@@ -2,6 +2,7 @@
 -- Assumes nothing.
 use Rattle.std.proofs.Common.{◌≡◌, ◌-◌, length, drop}
 use Rattle.print.specs.Page.{page as page_of, all_added}
+use Rattle.print.proofs.Broken.{Due}
 use Rattle.otlist.specs.Words.{lines_in, last_word, last_count}
 use Rattle.otlist.proofs.words.take.Given as goal
 
@@ -11,6 +12,8 @@ invariant-loop-i g l = record {
   count : last_count l.count (drop l.i l.block) ≡ last_count l.initial.count l.block;
   lines : all_added (page_of l.page l.used) (lines_in l.word l.count (drop l.i l.block))
       ≡ all_added (page_of l.initial.page l.initial.used) (lines_in l.initial.word l.initial.count l.block);
+  added : Due (page_of l.initial.page l.initial.used) (lines_in l.initial.word l.initial.count l.block)
+      (lines_in l.word l.count (drop l.i l.block)) (page_of l.page l.used);
 }
 
 abbrev pub decreases-loop-i : goal.decreases-loop-i

@@ -2,7 +2,7 @@
 -- Assumes nothing.
 use Rattle.std.proofs.lemmas.Result.{IfOk-weaker, on_err_weaker, MatchResult-from_err}
 use Rattle.print.proofs.Added.{then, one_line}
-use Rattle.otreplay.proofs.Firsts.{none, behind}
+use Rattle.print.proofs.Broken.{at_first, later}
 use Rattle.otreplay.specs.Printed.{event_trace}
 use Rattle.otreplay.proofs.paper.happened.Goals as goal
 
@@ -17,9 +17,9 @@ pub returns-in_err-a-clause-err : goal.returns-in_err-a-clause-err
 unfolding event_trace
 returns-in_err-a-clause-err g c =
     MatchResult-from_err c.from_residual.result _ _ c.from_residual.ensures.0
-    (λ e. none _ _ _ c.in_err-a.ensures.err)
+    (λ e. at_first _ _ _ c.in_err-a.ensures.err)
 
 pub returns-clause-err : goal.returns-clause-err
 unfolding event_trace
 returns-clause-err g c =
-    on_err_weaker c.add.result (λ e. behind _ _ _ _ _ c.in_ok-a.ensures.ok (none _ _ _ e)) c.add.ensures.err
+    on_err_weaker c.add.result (λ e. later _ _ _ _ _ c.in_ok-a.ensures.ok (at_first _ _ _ e)) c.add.ensures.err

@@ -1,2 +1,0 @@
--- Where a page stands after some of the lines of an event.
-mod Firsts
