@@ -1,14 +1,14 @@
 -- A word by its fields: every word has them, the readers give them back, and a word that is built has those that went in, spare bits 0,
 -- and even parity; and there is one such word.
 -- Assumes nothing.
+use Rattle.std.specs.Prelude.{Result, Ok, Err}
+use Rattle.refusals.specs.declared.Refusal.{Refusal}
 use mathlib.Core.Path.{◌≡◌}
 use Prim.Native.Nat.{ℕ, ◌+◌, ◌*◌, ◌/◌, ◌%◌, ◌^◌, ◌<◌}
 use native.Mathlib.Omega.{arith}
 use borrow.Author.Tests.{le-ltb, eqb-true}
 use native.Mathlib.Nat.{mod-lt}
 use lib.Count.{ones}
-use Rattle.word.specs.declared.Built.{Built}
-use Rattle.word.specs.declared.Built.TheVariants.{Word, Refused}
 use Rattle.word.specs.Frame.{type_of, spare_of, id_of, value_of, even_of, bare, evened, built_of}
 use Rattle.word.specs.Fields.{Fields, Fit, word_of, Read, BuiltFrom}
 use Rattle.word.proofs.Clash.{clash}
@@ -29,15 +29,15 @@ of_fields w h =
     )
 
 -- a type up to 7 is built
-pub built_word : (t i v : ℕ) → t < 8 → built_of t i v ≡ Word (evened (bare t i v))
+pub built_word : (t i v : ℕ) → t < 8 → built_of t i v ≡ Ok (evened (bare t i v))
 unfolding built_of
 built_word t i v ht = rw (le-ltb 7 t (omega arith))
 
 -- so what is built is that word, and never a refusal
-pub is_built : (t i v w : ℕ) (b : Built) → t < 8 → b ≡ built_of t i v → b ≡ Word w → w ≡ evened (bare t i v)
+pub is_built : (t i v w : ℕ) (b : Result ℕ Refusal) → t < 8 → b ≡ built_of t i v → b ≡ Ok w → w ≡ evened (bare t i v)
 is_built t i v w b ht made is = let one = built_word t i v ht in cc
 
-pub not_refused : (t i v n : ℕ) (b : Built) → t < 8 → b ≡ built_of t i v → b ≡ Refused n → ⊥
+pub not_refused : (t i v : ℕ) (n : Refusal) (b : Result ℕ Refusal) → t < 8 → b ≡ built_of t i v → b ≡ Err n → ⊥
 not_refused t i v n b ht made is = let one = built_word t i v ht in clash cc
 
 -- from its type, id and value
@@ -48,7 +48,7 @@ built_from t i v ht hi hv =
     let e = eqb-true (ones (evened (bare t i v)) % 2) 0 (evened_even (bare t i v) (omega arith)) in
     record { parity = p; one_bit = mod-lt (ones (bare t i v)) two_pos; word = omega arith; even = e }
 
-pub written : (t i v : ℕ) → t < 8 → i < 256 → v < 65536 → (w : ℕ) × ((built_of t i v ≡ Word w) × BuiltFrom t i v w)
+pub written : (t i v : ℕ) → t < 8 → i < 256 → v < 65536 → (w : ℕ) × ((built_of t i v ≡ Ok w) × BuiltFrom t i v w)
 written t i v ht hi hv = (evened (bare t i v), (built_word t i v ht, built_from t i v ht hi hv))
 
 -- of a word that is built, the parity bit is that of the other bits

@@ -87,7 +87,7 @@ module _ (q b : ℕ) where
       (low (suits_of (type_of q) (type_of b)) (among (type_of b) (row (type_of q))) (leb 4 (type_of b)) at_types (parts q b m).suits)
 
 -- "A boiler frame of even parity matches a question when the id is equal and the type is 6 or 7, or 4 for a READ-DATA, or 5 for a
--- WRITE-DATA", its spare bits zero, and only then: of every two words (`of_Fields`)
+-- WRITE-DATA", its spare bits zero, and only then: of every two words (`of_fields`)
 module _ (q b : Fields) (hq : Fit q) (hb : Fit b) where
   abbrev u : Read q
   u = fields q hq

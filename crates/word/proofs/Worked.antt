@@ -1,5 +1,6 @@
 -- Worked words: `ones` takes as many steps as the number, so a worked word is counted digit by digit, by a test that computes.
 -- Assumes nothing.
+use Rattle.std.specs.Prelude.{Ok}
 use mathlib.Core.Path.{◌≡◌, sym, ap, ◌∙◌, subst}
 use mathlib.Core.Bool.{Bool, true, ◌&&◌}
 use Prim.Native.Nat.{ℕ, zero, suc, ◌+◌, ◌*◌, ◌/◌, ◌%◌, ◌^◌, ◌<◌}
@@ -9,7 +10,6 @@ use borrow.Author.Tests.{ltb-true, leb-true, le-ltb, eqb-true}
 use lib.Dec.{eqb, ltb, leb}
 use lib.Arith.{lt-one}
 use lib.Count.{ones, ones_in, ones_step}
-use Rattle.word.specs.declared.Built.TheVariants.{Word}
 use Rattle.word.specs.Frame.{bare, built_of}
 use Rattle.word.proofs.Match.{both}
 
@@ -25,7 +25,7 @@ counted (suc k) n h =
 abbrev pub builds : ℕ → ℕ → ℕ → ℕ → Bool
 builds t i v w = leb t 7 && (ltb (bare t i v) (2 ^ 32) && eqb (bare t i v + ones_in 32 (bare t i v) % 2 * 2 ^ 31) w)
 
-pub built_is : (t i v w : ℕ) → builds t i v w ≡ true → built_of t i v ≡ Word w
+pub built_is : (t i v w : ℕ) → builds t i v w ≡ true → built_of t i v ≡ Ok w
 unfolding built_of
 built_is t i v w e =
     let n = bare t i v in
@@ -35,5 +35,5 @@ built_is t i v w e =
     let second = both small same first.1 in
     let low = le-ltb 7 t (leb-true t 7 first.0) in
     rw low
-    (ap (λ (x : ℕ). Word (n + x % 2 * 2 ^ 31)) (sym (counted 32 n (ltb-true n (2 ^ 32) second.0)))
-    ∙ ap Word (eqb-true (n + ones_in 32 n % 2 * 2 ^ 31) w second.1))
+    (ap (λ (x : ℕ). Ok (n + x % 2 * 2 ^ 31)) (sym (counted 32 n (ltb-true n (2 ^ 32) second.0)))
+    ∙ ap Ok (eqb-true (n + ones_in 32 n % 2 * 2 ^ 31) w second.1))

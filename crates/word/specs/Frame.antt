@@ -1,14 +1,12 @@
 -- The frame word (01, 'Frame word'): its fields, its parity, what a line takes for a good one, a word from its fields, and a boiler's word that
 -- matches a question.
 -- Assumes nothing: these are definitions.
-use Rattle.std.specs.Prelude.{ℕ, ◌+◌, ◌*◌, ◌/◌, ◌%◌, ◌^◌, Bool, true, false, cond, ◌&&◌, ◌||◌, List, [], ◌∷◌, eqb, ltb}
+use Rattle.refusals.specs.declared.Refusal.{Refusal}
+use Rattle.std.specs.Prelude.{ℕ, ◌+◌, ◌*◌, ◌/◌, ◌%◌, ◌^◌, Bool, true, false, cond, ◌&&◌, ◌||◌, List, [], ◌∷◌, eqb, ltb, Result, Ok, Err}
 use Rattle.std.specs.Int.Bits.{bit_xor}
 use Rattle.std.specs.Int.Count.{ones}
 use Rattle.word.specs.declared.Frame.{Frame}
-use Rattle.word.specs.declared.Built.{Built}
-use Rattle.word.specs.declared.Built.TheVariants.{Word, Refused}
-use Rattle.word.specs.declared.Checked.{Checked}
-use Rattle.word.specs.declared.Checked.TheVariants as checked
+use Rattle.refusals.specs.declared.Refusal.TheVariants.{OddParity, WrongType, SpareBits}
 use Rattle.word.specs.Checks.{Check, must, judged}
 
 -- a frame of this word that wasn't read from samples: it has no distances (02, Ask 3)
@@ -41,14 +39,14 @@ unfoldable pub clear_of : ℕ → Bool
 clear_of w = eqb (spare_of w) 0
 
 -- A good word for a line, from either side. 5: "parity odd"; then 16: "spare bits not zero" (02, Ask 1, which decides over 000 here).
-abbrev pub good_checks : ℕ → List Check
-good_checks w = must 5 (even_of w) ∷ must 16 (clear_of w) ∷ []
+abbrev pub good_checks : ℕ → List (Check Refusal)
+good_checks w = must OddParity (even_of w) ∷ must SpareBits (clear_of w) ∷ []
 
 unfoldable pub good_of : ℕ → Bool
 good_of w = judged (good_checks w) (λ n. false) true
 
-unfoldable pub checked_of : ℕ → Checked
-checked_of w = judged (good_checks w) checked.Refused checked.Good
+unfoldable pub checked_of : ℕ → Result (Unit {0}) Refusal
+checked_of w = judged (good_checks w) Err (Ok tt)
 
 -- the word with bit k flipped
 abbrev pub flip : ℕ → ℕ → ℕ
@@ -85,8 +83,8 @@ abbrev pub evened : ℕ → ℕ
 evened b = b + ones b % 2 * 2 ^ 31
 
 -- Refusal 6: "type above 7 when a word is written"
-unfoldable pub built_of : ℕ → ℕ → ℕ → Built
-built_of t i v = cond (ltb 7 t) (Refused 6) (Word (evened (bare t i v)))
+unfoldable pub built_of : ℕ → ℕ → ℕ → Result ℕ Refusal
+built_of t i v = cond (ltb 7 t) (Err WrongType) (Ok (evened (bare t i v)))
 
 -- "the type is 6 or 7, or 4 for a READ-DATA, or 5 for a WRITE-DATA": q the question's type, a the boiler's
 unfoldable pub suits_of : ℕ → ℕ → Bool

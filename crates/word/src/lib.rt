@@ -4,27 +4,16 @@
 ghost use Rattle.std.specs.Prelude.{◌≡◌};
 ghost use Rattle.word.specs.Frame.{even_of, type_of, spare_of, id_of, value_of, checked_of, built_of, suits_of, matches_of};
 
+use refusals::Refusal;
+
 // A frame on its way through the box: its word, and how straight its edges were (02, Ask 3), that is the smallest and the largest distance
-// between neighbouring middle edges, in samples. Both are 0 where no samples were read.
+// between neighbouring middle edges, in samples. Both are 0 where no samples were read: no Option, since what prints a
+// frame says 0 and 0 (`unmeasured`), and nothing is decided by them.
 #[derive(Clone, Copy)]
 pub struct Frame {
     pub word: u32,
     pub shortest: u8,
     pub longest: u8,
-}
-
-// A word made from its fields, or the number of the refusal.
-#[derive(Clone, Copy)]
-pub enum Built {
-    Word(u32),
-    Refused(u8),
-}
-
-// A word that a line looks at: good, or the number of the refusal.
-#[derive(Clone, Copy)]
-pub enum Checked {
-    Good,
-    Refused(u8),
 }
 
 #[tactic(auto, unfolding(crate::specs::Frame::even_of))]
@@ -34,6 +23,8 @@ pub fn even(w: u32) -> bool
     u32::count_ones(w) % 2 == 0
 }
 
+// The fields, each by the document's place and width. One function of place and width would be no plainer: it would have to ask that the width
+// fits a byte.
 #[tactic(auto, unfolding(crate::specs::Frame::type_of))]
 pub fn type_of(w: u32) -> u8
     ensures { result ≡ type_of w }
@@ -64,27 +55,28 @@ pub fn value_of(w: u32) -> u16
 
 // What a line asks of a word from either side, before it looks at the type.
 #[tactic(auto, unfolding(crate::specs::Frame::checked_of, crate::specs::Frame::clear_of))]
-pub fn check(w: u32) -> Checked
+pub fn check(w: u32) -> Result<(), Refusal>
     ensures { result ≡ checked_of w }
 {
     if !even(w) {
-        return Checked::Refused(5);
+        return Err(Refusal::OddParity);
     }
     if spare_of(w) != 0 {
-        return Checked::Refused(16);
+        return Err(Refusal::SpareBits);
     }
-    Checked::Good
+    Ok(())
 }
 
+// A type is a number, here and everywhere: one above 7 is refused here, and an enum would ask more of who calls.
 #[tactic(auto, unfolding(crate::specs::Frame::built_of))]
-pub fn build(t: u8, id: u8, value: u16) -> Built
+pub fn build(t: u8, id: u8, value: u16) -> Result<u32, Refusal>
     ensures { result ≡ built_of t id value }
 {
     if 7 < t {
-        return Built::Refused(6);
+        return Err(Refusal::WrongType);
     }
     let bare = (t as u32) * 0x1000_0000 + (id as u32) * 0x1_0000 + (value as u32);
-    Built::Word(bare + u32::count_ones(bare) % 2 * 0x8000_0000)
+    Ok(bare + u32::count_ones(bare) % 2 * 0x8000_0000)
 }
 
 // Whether a boiler's type answers a question's type.
@@ -92,32 +84,20 @@ pub fn build(t: u8, id: u8, value: u16) -> Built
 fn suits(question: u8, answer: u8) -> bool
     ensures { result ≡ suits_of question answer }
 {
-    if answer == 6 {
-        return true;
+    match answer {
+        6 | 7 => true,
+        4 => question == 0,
+        5 => question == 1,
+        _ => false,
     }
-    if answer == 7 {
-        return true;
-    }
-    if answer == 4 {
-        return question == 0;
-    }
-    if answer == 5 {
-        return question == 1;
-    }
-    false
 }
 
+// Whether a boiler's word is good, and answers the question that was sent.
 pub fn matches(question: u32, answer: u32) -> bool
     ensures { result ≡ matches_of question answer }
 {
-    let checked = check(answer);
-    if let Checked::Refused(_) = checked {
+    if check(answer).is_err() {
         return false;
     }
-    let asked = id_of(question);
-    let came = id_of(answer);
-    if asked != came {
-        return false;
-    }
-    suits(type_of(question), type_of(answer))
+    id_of(question) == id_of(answer) && suits(type_of(question), type_of(answer))
 }

@@ -1,35 +1,18 @@
--- `word::matches` meets its contract: each return is the conjunct at which the test fails, or the last one.
+-- `word::matches` meets its contract: the word is good, and then the id and the type are looked at.
 -- Assumes nothing.
 use Rattle.std.proofs.Common.{sym, ◌∙◌, eq-eqb, ne_eqb}
 use Rattle.word.specs.Frame.{matches_of}
-use Rattle.word.proofs.Good.{fails, passes, good, bad}
+use Rattle.word.proofs.Good.{refused_bad, taken_good}
 use Rattle.word.proofs.matches.Goals as goal
 
-pub returns-in-Refused : goal.returns-in-Refused
+pub returns-then-is_err : goal.returns-then-is_err
 unfolding matches_of
-returns-in-Refused c = rw (bad _ (fails _ _ (sym c.check-checked.ensures ∙ c.in-Refused.is)))
+returns-then-is_err c = rw (refused_bad _ _ c.check.ensures (sym c.is_err.ensures.value ∙ c.if-is_err.true))
 
-pub returns-then-asked-came : goal.returns-then-asked-came
+pub returns-then-id_of : goal.returns-then-id_of
 unfolding matches_of
-returns-then-asked-came c =
-    let fit = good _ (passes _ (sym c.check-checked.ensures ∙ c.in_default.is)) in
-    rw (
-      fit,
-      ← c.id_of-asked.ensures,
-      ← c.id_of-came.ensures,
-      ne_eqb _ _ c.if-asked-came.true,
-    )
+returns-then-id_of c = rw (taken_good _ _ c.check.ensures (sym c.is_err.ensures.value ∙ c.if-is_err.false), ← c.id_of.ensures, ← c.id_of-2.ensures, eq-eqb _ _ c.if-id_of.true, ← c.type_of.ensures, ← c.type_of-then-id_of.ensures) c.suits.ensures
 
-pub returns : goal.returns
+pub returns-else-id_of : goal.returns-else-id_of
 unfolding matches_of
-returns c =
-    let is_good = good _ (passes _ (sym c.check-checked.ensures ∙ c.in_default.is)) in
-    rw (
-      is_good,
-      ← c.id_of-asked.ensures,
-      ← c.id_of-came.ensures,
-      eq-eqb _ _ c.if-asked-came.false,
-      ← c.type_of.ensures,
-      ← c.type_of-2.ensures,
-    )
-    c.suits.ensures
+returns-else-id_of c = rw (taken_good _ _ c.check.ensures (sym c.is_err.ensures.value ∙ c.if-is_err.false), ← c.id_of.ensures, ← c.id_of-2.ensures, ne_eqb _ _ c.if-id_of.false)
