@@ -3,6 +3,7 @@ mod Linear
 pub mod Changed
 pub mod Divides
 pub mod Exactly
+mod Folded
 pub mod Sealed
 pub mod Tried
 mod Determined

@@ -10,10 +10,7 @@ ghost use Rattle.crc.specs.Crc.{crc_byte, crc_of, passes_of};
 fn feedback(c: u16) -> u16
     ensures { result ≡ c % 2 * 0xa001 }
 {
-    if c % 2 == 1 {
-        return 0xa001;
-    }
-    0
+    if c % 2 == 1 { 0xa001 } else { 0 }
 }
 
 // The register after one more byte.
@@ -21,26 +18,18 @@ fn feedback(c: u16) -> u16
 fn next(crc: u16, b: u8) -> u16
     ensures { result ≡ crc_byte crc b }
 {
-    let mut c = crc ^ (b as u16);
-    let mut k: u8 = 0;
-    while k < 8 {
+    let mut c = crc ^ u16::from(b);
+    for _ in 0..u8::BITS {
         c = (c / 2) ^ feedback(c);
-        k += 1;
     }
     c
 }
 
-#[tactic(auto, unfolding(crate::specs::Crc::crc_of, crate::specs::Crc::crc_from))]
+#[tactic(auto, using(crate::proofs::Folded::from_fold), unfolding(crate::specs::Crc::crc_of))]
 pub fn checksum(s: &[u8]) -> u16
     ensures { result ≡ crc_of s.now }
 {
-    let mut c: u16 = 0xffff;
-    let mut i: usize = 0;
-    while i < s.len() {
-        c = next(c, s[i]);
-        i += 1;
-    }
-    c
+    s.iter().copied().fold(0xffff, next)
 }
 
 // Whether a message's last two bytes are the checksum of those before them.
@@ -48,15 +37,8 @@ pub fn checksum(s: &[u8]) -> u16
 pub fn passes(s: &[u8]) -> bool
     ensures { result ≡ passes_of s.now }
 {
-    if s.len() < 2 {
+    let Some((body, sum)) = s.split_last_chunk() else {
         return false;
-    }
-    let n = s.len() - 2;
-    let c = checksum(&s[..n]);
-    let low = (c % 256) as u8;
-    let high = (c / 256) as u8;
-    if s[n] != low {
-        return false;
-    }
-    s[n + 1] == high
+    };
+    *sum == checksum(body).to_le_bytes()
 }

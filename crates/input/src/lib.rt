@@ -1,15 +1,18 @@
-// Standard input for the programs: a lent room is filled as far as the input goes. An error is the one of the read that failed.
+// Standard input for the programs: a lent room is filled as far as the input goes, and turns are taken while there may be more. An error is the
+// one of the read, or of the turn, that failed.
 #![tactic(auto)]
 
-ghost use Rattle.std.specs.Prelude.{ℕ, ◌<◌, take, length, IfOk, OnErr};
+ghost use Rattle.std.specs.Prelude.{◌≡◌, ℕ, ◌-◌, ◌^◌, ◌<◌, ◌⊎◌, take, length, Ok, Err, IfOk, IfErr, OnOk, OnErr, false};
 ghost use Rattle.std.specs.Io.{ReadsAtMost};
 ghost use Rattle.std.specs.Io.KnownBytes.{Consumes, IsAtEnd};
+ghost use Rattle.input.specs.Turns.{Goes, Ends};
 
 use std::io;
 use std::io::Read;
 
 // Reads until the room is full or the input ends, and gives how many bytes stand in front in the room then. Where a read fails, what came
-// before it stands in front, and the room isn't full.
+// before it stands in front, and the room isn't full. (The loop counts by hand: the count is the answer, and each read goes on where the last
+// ended; no other form is plainer.)
 pub fn read_full<R: Read>(input: &mut R, room: &mut [u8]) -> io::Result<usize>
     ensures bound { ReadsAtMost result room.new }
     ensures bytes { IfOk result (λ n. Consumes (R.remaining input.old) (R.remaining input.new) (take n room.new)) }
@@ -26,4 +29,20 @@ pub fn read_full<R: Read>(input: &mut R, room: &mut [u8]) -> io::Result<usize>
         done += n;
     }
     Ok(done)
+}
+
+// Takes one turn after the other, until one says that there is no more, or fails. A proved loop has to end, and nothing says that the input does:
+// there are more turns than any run uses up.
+pub fn while_more<F: FnMut() -> io::Result<bool>>(mut turn: F) -> io::Result<()>
+    requires { F.IsAlwaysCallable turn }
+    ensures ok { OnOk result ((n : ℕ) × (last : F)
+        × (Ends F.step turn n (Ok false) last ⊎ (Goes F.step turn n last × (n ≡ 2 ^ 64 - 1)))) }
+    ensures err { IfErr result (λ e. (n : ℕ) × (last : F) × Ends F.step turn n (Err e) last) }
+{
+    for _ in 0..u64::MAX {
+        if !turn()? {
+            return Ok(());
+        }
+    }
+    Ok(())
 }

@@ -57,7 +57,3 @@ unfolding pair_at
 pair_past s p h =
     let far : length s ≤ p + 1 = omega arith in
     ap₂ (λ (x y : ℕ). x * 256 + y) (get_or-eq_default s 0 h) (get_or-eq_default s 0 far)
-
-pub word_past : (s : List ℕ) (p : ℕ) → length s ≤ p → word_at s p ≡ 0
-unfolding word_at
-word_past s p h = ap₂ (λ (x y : ℕ). x * 65536 + y) (pair_past s p h) (pair_past s (p + 2) (omega arith))

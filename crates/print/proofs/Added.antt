@@ -1,15 +1,17 @@
 -- Laws of a page of lines: where a line goes, and that of many lines none is lost.
 -- Assumes nothing.
-use mathlib.Core.Path.{◌≡◌, refl, sym, ap, ap₂, ◌∙◌}
+use mathlib.Core.Path.{◌≡◌, refl, sym, ap, ◌∙◌}
 use mathlib.Core.Bool.{Bool, true, false}
 use mathlib.Core.List.{List, [], ◌∷◌, ◌++◌, append-nil, append_assoc}
-use Prim.Native.Nat.{ℕ, ◌+◌, ◌-◌, ◌≤◌, ◌<◌, min}
+use Prim.Native.Nat.{ℕ, ◌+◌, ◌-◌, ◌≤◌, ◌<◌}
 use native.Mathlib.Omega.{arith}
-use borrow.Author.Tests.{lt-ltb, le-ltb, ltb-true, ltb-false}
+use borrow.Author.Tests.{lt-ltb, le-ltb, ltb-false}
 use lib.Dec.{ltb}
 use native.Mathlib.Numerals.{add-one}
-use lib.ListN.{length, take, drop, get_or, length-append, length-take}
-use lib.Seq.{paste, take_all, take_at, length-take-le, drop-cons}
+use lib.ListN.{length, take, drop, get_or, length-append}
+use borrow.Rule.Slice.PartMut.{put_mid}
+use Rattle.std.proofs.lemmas.Slice.{put_mid-paste}
+use lib.Seq.{take_all, take_at, length-take-le, drop-cons}
 use Rattle.text.specs.declared.Text.{Text}
 use Rattle.text.specs.Text.{empty_text, puts, says}
 use Rattle.print.specs.Page.{Page, page, collected, put, added, leaves, all_added, all_leave, in_a_row}
@@ -30,41 +32,23 @@ module _ (bytes : List ℕ) (used : ℕ) (l : List ℕ) where
   unfolding added
   behind h g = rw (le-ltb (length bytes) (length l) h, le-ltb (length bytes - length l) used g)
 
--- as much of a list as there is
-part_whole : (k : ℕ) (s : List ℕ) → take (min k (length s)) s ≡ take k s
-part_whole k s = go (ltb k (length s)) refl
-  where
-    go : (b : Bool) → ltb k (length s) ≡ b → take (min k (length s)) s ≡ take k s
-    go true e = let h = ltb-true k (length s) e in ap (λ (n : ℕ). take n s) (let m : min k (length s) ≡ k = omega arith in m)
-    go false e =
-        let h = ltb-false k (length s) e in
-        ap (λ (n : ℕ). take n s) (let m : min k (length s) ≡ length s = omega arith in m)
-        ∙ take_all (length s) s (omega arith) ∙ sym (take_all k s h)
+-- what `add` leaves: the line is copied to where the page q has its next one, into k bytes there
+module _ (d : List ℕ) (used : ℕ) (l : List ℕ) (room : length l ≤ length d) (q : Page) (s : List ℕ) (same : s ≡ l) (k : ℕ) (long : length l ≡ k) where
+  abbrev Copied : Type 0
+  Copied = page (put_mid q.used k q.bytes s) (q.used + length l) ≡ added (page d used) l
 
--- what `add_bytes` leaves: so many of the bytes, all of a line, copied to its place
-module _ (d : List ℕ) (used : ℕ) (s : List ℕ) (k n : ℕ) (e : n ≡ min k (length s)) where
-  long : length (take k s) ≡ n
-  long = length-take k s ∙ sym e
+  copied : added (page d used) l ≡ put q.bytes q.used l → Copied
+  copied h =
+      ap (λ (x : List ℕ). page x (q.used + length l))
+      (put_mid-paste q.used k q.bytes s l (length l) same long refl
+      ∙ ap (λ (x : List ℕ). take q.used q.bytes ++ x ++ drop (q.used + length l) q.bytes) (take_all (length l) l (omega arith)))
+      ∙ sym h
 
-  copied : (at : ℕ) → page (paste d at s n) (at + n) ≡ put d at (take k s)
-  copied at =
-      let same : take n s ≡ take k s = ap (λ (m : ℕ). take m s) e ∙ part_whole k s in
-      ap₂ (λ (x : List ℕ) (m : ℕ). page (take at d ++ x ++ drop (at + m) d) (at + m)) same (sym long)
+  pub first : length d - length l < used → q ≡ page d 0 → Copied
+  first g eq = copied (in_front d used l room g ∙ ap (λ (x : Page). put x.bytes x.used l) (sym eq))
 
-  pub left_out : length d < n → page d 0 ≡ added (page d used) (take k s)
-  left_out h = sym (nowhere d used (take k s) (omega (arith, long)))
-
-  pub first : n ≤ length d → length d - n < used → (x : List ℕ) (r : ℕ) → r ≡ 0 + n → x ≡ paste d 0 s n →
-      page x r ≡ added (page d used) (take k s)
-  first h g x r er ex =
-      ap₂ page ex er ∙ copied 0
-      ∙ sym (in_front d used (take k s) (omega (arith, long)) (let l = long in omega arith))
-
-  pub next : n ≤ length d → used ≤ length d - n → (x : List ℕ) (r : ℕ) → r ≡ used + n → x ≡ paste d used s n →
-      page x r ≡ added (page d used) (take k s)
-  next h g x r er ex =
-      ap₂ page ex er ∙ copied used
-      ∙ sym (behind d used (take k s) (omega (arith, long)) (let l = long in omega arith))
+  pub next : used ≤ length d - length l → q ≡ page d used → Copied
+  next g eq = copied (behind d used l room g ∙ ap (λ (x : Page). put x.bytes x.used l) (sym eq))
 
 -- a line that is added to a page: what is written and what the page holds then are what it held, and the line; and what is used is there
 module _ (d : List ℕ) (used : ℕ) (l : List ℕ) (u : used ≤ length d) where

@@ -1,6 +1,9 @@
 -- A page on which lines are collected, so that many go out in one write.
 -- Assumes nothing: these are definitions.
-use Rattle.std.specs.Prelude.{ℕ, ◌≡◌, ◌+◌, ◌-◌, cond, List, [], ◌∷◌, ◌++◌, ltb, length, take, drop}
+use Rattle.std.specs.Prelude.{ℕ, ◌≡◌, ◌+◌, ◌-◌, cond, List, [], ◌∷◌, ◌++◌, ltb, length, take, drop, map, Option}
+use Rattle.std.specs.Option.{option_to_list}
+use Rattle.text.specs.declared.Text.{Text}
+use Rattle.text.specs.Text.{says}
 
 -- a page's bytes, and how many of them are used
 pub record Page : Type 0 where
@@ -13,6 +16,10 @@ page bytes used = record { bytes = bytes; used = used }
 -- what is collected and not yet written
 abbrev pub collected : Page → List ℕ
 collected p = take p.used p.bytes
+
+-- with nothing collected; the bytes stay
+abbrev pub emptied : Page → Page
+emptied p = page p.bytes 0
 
 -- a line at a place of a page's bytes; what lies behind it stays
 abbrev pub put : List ℕ → ℕ → List ℕ → Page
@@ -39,11 +46,15 @@ unfoldable pub all_leave : Page → List (List ℕ) → List ℕ
 all_leave p [] = []
 all_leave p (l ∷ ls) = leaves p l ++ all_leave (added p l) ls
 
+-- the line of a text, if there is one
+abbrev pub texts : Option Text → List (List ℕ)
+texts t = map says (option_to_list t)
+
 -- lines, one behind the other
 unfoldable pub in_a_row : List (List ℕ) → List ℕ
 in_a_row [] = []
 in_a_row (l ∷ ls) = l ++ in_a_row ls
 
--- A page's bytes as they stand where a write failed: as after some of the lines, from the first on, and none of the others.
-abbrev pub BrokenOff : Page → List (List ℕ) → List ℕ → Type 0
-BrokenOff p ls bytes = (k : ℕ) × (bytes ≡ (all_added p (take k ls)).bytes)
+-- A page as it stands where a write failed: as after some of the lines, from the first on, and none of the others.
+abbrev pub BrokenOff : Page → List (List ℕ) → Page → Type 0
+BrokenOff p ls q = (k : ℕ) × (q ≡ all_added p (take k ls))

@@ -1,100 +1,87 @@
-// Standard output for the programs: a line of text in one write, or lines that are collected on a lent page and written together. No
-// contract can say what a call of the system's writes. An error is the one of the write that failed.
+// Standard output for the programs: a line of text in one write, or lines that are collected on a page over a lent room and written
+// together. No contract can say what a call of the system's writes. An error is the one of the write that failed.
 #![tactic(auto)]
 
-ghost use Rattle.std.specs.Prelude.{◌+◌, ◌≤◌, min, ◌≡◌, length, take, IfOk, OnErr};
-ghost use Rattle.std.proofs.Math.Seq.{paste};
+ghost use Rattle.std.specs.Prelude.{◌≡◌, ◌≤◌, length, OnOk, OnErr};
 ghost use Rattle.text.specs.Text.{says};
-ghost use Rattle.print.specs.Page.{page as page_of, added};
+ghost use Rattle.print.specs.Page.{page, emptied, added, all_added, texts};
 
 use std::io;
 use text::Text;
 
-fn write<P: Print>(rt: &P, bytes: &[u8], len: usize) -> io::Result<()> {
-    if len <= bytes.len() {
-        return rt.write_all(&bytes[..len]);
-    }
-    Ok(())
-}
-
-// An array behind a reference: its type says its length.
-fn write_array<P: Print>(rt: &P, bytes: &[u8; 120], len: usize) -> io::Result<()> {
-    write(rt, bytes, len)
-}
-
 pub fn print<P: Print>(rt: &P, t: Text) -> io::Result<()> {
-    let bytes = t.bytes;
-    write_array(rt, &bytes, t.len)
+    rt.write_all(t.as_bytes())
 }
 
-// What a page holds: its first `used` bytes. Where it holds nothing, nothing is called.
-pub fn flush<P: Print>(rt: &P, page: &[u8], used: usize) -> io::Result<()> {
-    write(rt, page, used)
-}
-
-fn at_most(n: usize, all: usize) -> usize
-    ensures { result ≡ min n all }
-{
-    if n < all { n } else { all }
-}
-
-// Bytes at a place of a page; gives the place behind them.
-fn copy(page: &mut [u8], from: usize, bytes: &[u8], n: usize) -> usize
-    requires from_bound { from + n ≤ length page.old }
-    requires n_bound { n ≤ length bytes.now }
-    ensures place { result ≡ from + n }
-    ensures bytes { page.new ≡ paste page.old from bytes.now n }
-{
-    let mut i = 0;
-    while i < n {
-        page[from + i] = bytes[i];
-        i += 1;
-    }
-    from + n
-}
-
-fn add_bytes<P: Print>(
-    rt: &P,
-    page: &mut [u8],
+// A lent room, and how much of it is used by the lines that are collected there: two fields, which `within` holds together. That an error leaves the
+// page, and that the room stays the one that was lent, stands at each method: an invariant can't speak of before and after.
+#[derive(Drop)]
+pub struct Page<'a> {
+    room: &'a mut [u8],
     used: usize,
-    bytes: &[u8],
-    len: usize,
-) -> io::Result<usize>
-    ensures ok { IfOk result (λ n. page_of page.new n ≡ added (page_of page.old used) (take len bytes.now)) }
-    ensures err { OnErr result (page.new ≡ page.old) }
-{
-    let n = at_most(len, bytes.len());
-    if page.len() < n {
-        flush(rt, page, used)?;
-        write(rt, bytes, n)?;
-        return Ok(0);
-    }
-    if page.len() - n < used {
-        flush(rt, page, used)?;
-        return Ok(copy(page, 0, bytes, n));
-    }
-    Ok(copy(page, used, bytes, n))
+    ghost within: { used ≤ length room.now },
 }
 
-fn add_array<P: Print>(
-    rt: &P,
-    page: &mut [u8],
-    used: usize,
-    bytes: &[u8; 120],
-    len: usize,
-) -> io::Result<usize>
-    ensures ok { IfOk result (λ n. page_of page.new n ≡ added (page_of page.old used) (take len bytes.now)) }
-    ensures err { OnErr result (page.new ≡ page.old) }
-{
-    add_bytes(rt, page, used, bytes, len)
-}
+impl<'a> Page<'a> {
+    ghost use Rattle.print.specs.Reads.{page_of, lender};
 
-// A line behind what a page holds; gives how much of the page is used then. A page that has no room for the line is written first, and so
-// is a line that has no room on any page. Where a write fails the page stays as it was.
-pub fn add<P: Print>(rt: &P, page: &mut [u8], used: usize, t: Text) -> io::Result<usize>
-    ensures ok { IfOk result (λ n. page_of page.new n ≡ added (page_of page.old used) (says t)) }
-    ensures err { OnErr result (page.new ≡ page.old) }
-{
-    let bytes = t.bytes;
-    add_array(rt, page, used, &bytes, t.len)
+    // A page on which nothing stands.
+    pub fn over(room: &'a mut [u8]) -> Self
+        ensures page { page_of result ≡ page room.old 0 }
+        ensures lent { lender result ≡ room.entry.ghost_name }
+    {
+        Page { room, used: 0 }
+    }
+
+    // Writes what stands on the page. Where nothing does, nothing is called.
+    fn write<P: Print>(&self, rt: &P) -> io::Result<()> {
+        rt.write_all(&self.room[..self.used])
+    }
+
+    // Writes what stands on the page; nothing stands there then. Where the write fails the page stays as it was.
+    pub fn flush<P: Print>(&mut self, rt: &P) -> io::Result<()>
+        ensures ok { OnOk result (page_of self.new ≡ emptied (page_of self.old)) }
+        ensures err { OnErr result (page_of self.new ≡ page_of self.old) }
+        ensures lent { lender self.new ≡ lender self.old }
+    {
+        self.write(rt)?;
+        self.used = 0;
+        Ok(())
+    }
+
+    // A line behind what stands on the page. A page that has no room for the line is written first, and so is a line that has no room on
+    // any page. Where a write fails the page stays as it was.
+    pub fn add<P: Print>(&mut self, rt: &P, t: Text) -> io::Result<()>
+        ensures ok { OnOk result (page_of self.new ≡ added (page_of self.old) (says t)) }
+        ensures err { OnErr result (page_of self.new ≡ page_of self.old) }
+        ensures lent { lender self.new ≡ lender self.old }
+    {
+        let line = t.as_bytes();
+        if self.room.len() < line.len() {
+            self.write(rt)?;
+            rt.write_all(line)?;
+            self.used = 0;
+            return Ok(());
+        }
+        if self.room.len() - line.len() < self.used {
+            self.flush(rt)?;
+        }
+        let end = self.used + line.len();
+        self.room[self.used..end].copy_from_slice(line);
+        self.used = end;
+        Ok(())
+    }
+
+    // The line, if there is one.
+    #[tactic(auto, unfolding(crate::specs::Page::all_added))]
+    pub fn add_some<P: Print>(&mut self, rt: &P, t: Option<Text>) -> io::Result<()>
+        ensures ok { OnOk result (page_of self.new ≡ all_added (page_of self.old) (texts t)) }
+        ensures err { OnErr result (page_of self.new ≡ page_of self.old) }
+        ensures lent { lender self.new ≡ lender self.old }
+    {
+        match t {
+            Some(line) => self.add(rt, line),
+            None => Ok(()),
+        }
+    }
 }

@@ -5,14 +5,12 @@ use Rattle.std.specs.Int.Bits.{bit_xor}
 use Rattle.crc.specs.Crc.{crc_bits}
 use Rattle.crc.proofs.next.Goals as goal
 
-pub loop-k-preserved : goal.loop-k-preserved
+pub loop-preserved : goal.loop-preserved
 unfolding crc_bits
-loop-k-preserved c =
-    let x = c.loop-k.c in
-    let k = c.loop-k.k in
-    let left : 8 - k ≡ suc (8 - (k + 1)) = omega arith in (
-      omega arith,
-      ap (λ (y : ℕ). crc_bits (8 - (k + 1)) (bit_xor (x / 2) y)) c.feedback.ensures
-          ∙ ap (λ (n : ℕ). crc_bits n x) (sym left)
-          ∙ c.loop-k.invariant.1,
-    )
+loop-preserved c =
+    let x = c.loop.c in
+    let k = c.loop.counter in
+    let left : 8 - k ≡ suc (8 - (k + 1)) = omega arith in
+    ap (λ (y : ℕ). crc_bits (8 - (k + 1)) (bit_xor (x / 2) y)) c.feedback.ensures
+    ∙ ap (λ (n : ℕ). crc_bits n x) (sym left)
+    ∙ c.loop.invariant

@@ -1,0 +1,2 @@
+-- What a reader must believe of a program's turns over its input.
+pub mod Turns
