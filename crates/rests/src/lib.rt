@@ -7,46 +7,18 @@ ghost use Rattle.line.specs.Reads.{as_line};
 ghost use Rattle.turns.specs.Idle.{idle_of, all_idle};
 ghost use Rattle.rests.specs.Reads.{at};
 
-use line::{Line, Queue, Slot, Turn};
+use line::{Line, Turn};
 
 #[tactic(auto, unfolding(turns::specs::Idle::idle_of))]
 pub fn idle(line: Line) -> bool
     ensures { result ≡ idle_of (as_line line) }
 {
-    let turn = line.turn;
-    let held = line.held;
-    let order = line.order;
-    let Turn::Rest(rest) = turn else {
-        return false;
-    };
-    if rest != Line::REST {
-        return false;
-    }
-    if let Slot::Full(_, _) = held {
-        return false;
-    }
-    if let Queue::Waits(_, _) = order {
-        return false;
-    }
-    true
+    matches!(line.turn, Turn::Rest(Line::REST)) && line.held.is_none() && line.order.is_none()
 }
 
 // The lines of a box.
 pub fn all_idle(lines: [Line; 4]) -> bool
     ensures { result ≡ all_idle (at lines 0) (at lines 1) (at lines 2) (at lines 3) }
 {
-    let one = lines[0];
-    let two = lines[1];
-    let three = lines[2];
-    let four = lines[3];
-    if !idle(one) {
-        return false;
-    }
-    if !idle(two) {
-        return false;
-    }
-    if !idle(three) {
-        return false;
-    }
-    idle(four)
+    lines.iter().all(|line| idle(*line))
 }

@@ -5,6 +5,8 @@ use Prim.Native.Nat.{ℕ, suc}
 use mathlib.Core.Path.{◌≡◌}
 use mathlib.Core.Logic.{inl, inr, ⊎_elim}
 use native.Mathlib.Omega.{arith}
+use Rattle.refusals.specs.declared.Refusal.{Refusal}
+use Rattle.refusals.specs.declared.Refusal.TheVariants.{OutOfTime, NoMatch, SpareBits}
 use Rattle.word.specs.declared.Frame.{Frame}
 use Rattle.turns.specs.declared.Talker.{Talker}
 use Rattle.turns.specs.declared.Talker.TheVariants.{Thermostat, Modbus}
@@ -26,7 +28,7 @@ pub record Agrees (A B : Scene) : Type 0 where
   pub to : Into A B
   pub back : Into B A
   pub drops : (n : ℕ) → A.Drops n → B.Drops n
-  pub refuses : (n r : ℕ) → A.Refuses n r → B.Refuses n r
+  pub refuses : (n : ℕ) (r : Refusal) → A.Refuses n r → B.Refuses n r
 
 module _ {A B : Scene} (i : Into A B) where
   answers : (j : ℕ) (q : Frame) (k : ℕ) (b : Frame) → AnswersOn A j q k b → AnswersOn B j q k b
@@ -138,9 +140,9 @@ module _ {A B : Scene} (c : Agrees A B) where
 
   pub meets_too : Meets A → Meets B
   meets_too t = record {
-    seven = λ n b x none. c.refuses n 7 (t.seven n b (sound n b x) (λ q l. none q (listens i o n q l)));
-    eight = λ n b q x l off. c.refuses n 8 (t.eight n b q (sound n b x) (listens o i n q l) off);
-    sixteen = λ n b is even set. c.refuses n 16 (t.sixteen n b (o.boils n b is) even set);
+    seven = λ n b x none. c.refuses n OutOfTime (t.seven n b (sound n b x) (λ q l. none q (listens i o n q l)));
+    eight = λ n b q x l off. c.refuses n NoMatch (t.eight n b q (sound n b x) (listens o i n q l) off);
+    sixteen = λ n b is even set. c.refuses n SpareBits (t.sixteen n b (o.boils n b is) even set);
   }
 
   pub good_too : GoodOnly A → GoodOnly B

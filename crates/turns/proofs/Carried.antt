@@ -1,10 +1,12 @@
 -- Nothing is decided by the numbers that come with a frame (02, Ask 3): a line does the same without them. And an order's own frame has none.
 -- Assumes nothing.
+use Rattle.std.specs.Prelude.{Option, Some, None}
 use Prim.Native.Nat.{ℕ, zero, suc}
 use mathlib.Core.Path.{◌≡◌, refl, sym, ap, ap₂, ◌∙◌, subst}
 use mathlib.Core.Bool.{Bool, true, false, cond}
 use mathlib.Core.List.{List, [], ◌∷◌}
 use lib.Dec.{ltb, leb}
+use Rattle.refusals.specs.declared.Refusal.{Refusal}
 use Rattle.word.specs.declared.Frame.{Frame}
 use Rattle.word.specs.Checks.{Check, judged}
 use Rattle.turns.specs.Line.{Line, line, Step, says}
@@ -16,12 +18,8 @@ use Rattle.turns.specs.declared.Talker.{Talker}
 use Rattle.turns.specs.declared.Talker.TheVariants.{Thermostat, Modbus}
 use Rattle.turns.specs.declared.Turn.{Turn}
 use Rattle.turns.specs.declared.Turn.TheVariants.{Rest, Talk}
-use Rattle.turns.specs.declared.Slot.{Slot}
-use Rattle.turns.specs.declared.Slot.TheVariants.{Empty, Full}
-use Rattle.turns.specs.declared.Queue.{Queue}
-use Rattle.turns.specs.declared.Queue.TheVariants.{Nothing, Waits}
 use Rattle.turns.specs.Status.{keeps_of, shows_of, lacks_of}
-use Rattle.turns.specs.Turns.{silence, full_rest, patience, older, held_older, turn_older, line_older, word_for, waiting_of, sends_of, after}
+use Rattle.turns.specs.Turns.{silence, full_rest, patience, older, aged, turn_older, line_older, word_for, waiting_of, sends_of, after}
 use Rattle.turns.specs.Turns.{start_of, rests_of, ended_of, silence_of, talks_of, tick_of, refusal, thermostat_checks, thermostat_of, passes_of, answered_of}
 use Rattle.turns.specs.Turns.{ends_of, boiler_checks, boiler_of, under_way, order_of}
 use Rattle.turns.specs.Events.{Event, pass, tick, thermostat, boiler, order, Events, note_of}
@@ -38,12 +36,12 @@ abbrev bare_turn : Turn → Turn
 bare_turn (Rest r) = Rest r
 bare_turn (Talk x f a u) = Talk x (bare f) a u
 
-abbrev bare_slot : Slot → Slot
-bare_slot Empty = Empty
-bare_slot (Full f t) = Full (bare f) t
+abbrev bare_held : Option (Frame × ℕ) → Option (Frame × ℕ)
+bare_held None = None
+bare_held (Some (f, t)) = Some (bare f, t)
 
 abbrev pub bare_line : Line → Line
-bare_line l = line (bare_turn l.turn) (bare_slot l.held) l.order l.last l.status
+bare_line l = line (bare_turn l.turn) (bare_held l.held) l.order l.last l.status
 
 abbrev pub bare_said : Said → Said
 bare_said Quiet = Quiet
@@ -55,7 +53,7 @@ bare_said Dropped = Dropped
 bare_said Held = Held
 bare_said Taken = Taken
 bare_said (Exception n) = Exception n
-bare_said (Refused n) = Refused n
+bare_said (Refused r) = Refused r
 
 abbrev pub bare_step : Step → Step
 bare_step s = says (bare_line s.line) (bare_said s.said)
@@ -70,36 +68,36 @@ bare_noted Dropped = refl
 bare_noted Held = refl
 bare_noted Taken = refl
 bare_noted (Exception n) = refl
-bare_noted (Refused n) = refl
+bare_noted (Refused r) = refl
 
 -- a function after a choice, and after tests
 pub chosen : {A B : Type 0} (f : A → B) (b : Bool) (x y : A) → cond b (f x) (f y) ≡ f (cond b x y)
 chosen f true x y = refl
 chosen f false x y = refl
 
-tested : {A B : Type 0} (f : A → B) (cs : List Check) (r : ℕ → A) (x : A) → judged cs (λ n. f (r n)) (f x) ≡ f (judged cs r x)
+tested : {A B : Type 0} (f : A → B) (cs : List (Check Refusal)) (r : Refusal → A) (x : A) → judged cs (λ n. f (r n)) (f x) ≡ f (judged cs r x)
 tested f [] r x = refl
 tested f (c ∷ cs) r x = ap (λ y. cond c.holds y (f (r c.number))) (tested f cs r x) ∙ chosen f c.holds (judged cs r x) (r c.number)
 
 -- ---- a tick
 
-starts : (t : Turn) (h : Slot) (o : Queue) (x : Talker) (m : Status) → start_of (bare_line (line t h o x m)) ≡ bare_step (start_of (line t h o x m))
+starts : (t : Turn) (h : Option (Frame × ℕ)) (o : Option (Query × ℕ)) (x : Talker) (m : Status) → start_of (bare_line (line t h o x m)) ≡ bare_step (start_of (line t h o x m))
 unfolding start_of waiting_of sends_of after word_for shows_of keeps_of
-starts t Empty Nothing Thermostat m = refl
-starts t Empty Nothing Modbus m = refl
-starts t (Full f u) Nothing Thermostat m = refl
-starts t (Full f u) Nothing Modbus m = refl
-starts t Empty (Waits w v) Thermostat m = refl
-starts t Empty (Waits w v) Modbus m = refl
-starts t (Full f u) (Waits w v) Thermostat m = refl
-starts t (Full f u) (Waits w v) Modbus m = refl
+starts t None None Thermostat m = refl
+starts t None None Modbus m = refl
+starts t (Some (f, u)) None Thermostat m = refl
+starts t (Some (f, u)) None Modbus m = refl
+starts t None (Some (w, v)) Thermostat m = refl
+starts t None (Some (w, v)) Modbus m = refl
+starts t (Some (f, u)) (Some (w, v)) Thermostat m = refl
+starts t (Some (f, u)) (Some (w, v)) Modbus m = refl
 
-ages : (t : Turn) (h : Slot) (o : Queue) (x : Talker) (m : Status) → line_older (bare_line (line t h o x m)) ≡ bare_line (line_older (line t h o x m))
-unfolding line_older turn_older held_older
-ages (Rest r) Empty o x m = refl
-ages (Rest r) (Full f u) o x m = refl
-ages (Talk y q a v) Empty o x m = refl
-ages (Talk y q a v) (Full f u) o x m = refl
+ages : (t : Turn) (h : Option (Frame × ℕ)) (o : Option (Query × ℕ)) (x : Talker) (m : Status) → line_older (bare_line (line t h o x m)) ≡ bare_line (line_older (line t h o x m))
+unfolding line_older turn_older aged
+ages (Rest r) None o x m = refl
+ages (Rest r) (Some (f, u)) o x m = refl
+ages (Talk y q a v) None o x m = refl
+ages (Talk y q a v) (Some (f, u)) o x m = refl
 
 rests : (l : Line) (r : ℕ) → rests_of (bare_line l) r ≡ bare_step (rests_of l r)
 unfolding rests_of
@@ -116,7 +114,7 @@ talks : (l : Line) (x : Talker) (q : Frame) (a u : ℕ) → talks_of (bare_line 
 unfolding talks_of
 talks l x q a u = ap (cond (ltb (older a) silence) _) (ends l x u) ∙ chosen bare_step (ltb (older a) silence) _ _
 
-ticks : (t : Turn) (h : Slot) (o : Queue) (x : Talker) (m : Status) → tick_of (bare_line (line t h o x m)) ≡ bare_step (tick_of (line t h o x m))
+ticks : (t : Turn) (h : Option (Frame × ℕ)) (o : Option (Query × ℕ)) (x : Talker) (m : Status) → tick_of (bare_line (line t h o x m)) ≡ bare_step (tick_of (line t h o x m))
 unfolding tick_of line_older turn_older
 ticks (Rest r) h o x m =
     let l = line (Rest r) h o x m in
@@ -131,14 +129,14 @@ frames : (l : Line) (f : Frame) → thermostat_of (bare_line l) (bare f) ≡ bar
 unfolding thermostat_of refusal shows_of keeps_of
 frames l f = tested bare_step (thermostat_checks f) (refusal l) _
 
-replies : (t : Turn) (h : Slot) (o : Queue) (x : Talker) (m : Status) (y : Talker) (u : ℕ) (f : Frame) →
+replies : (t : Turn) (h : Option (Frame × ℕ)) (o : Option (Query × ℕ)) (x : Talker) (m : Status) (y : Talker) (u : ℕ) (f : Frame) →
     answered_of (bare_line (line t h o x m)) y u (bare f) ≡ bare_step (answered_of (line t h o x m) y u f)
 unfolding answered_of ended_of passes_of
 replies t h o x m Modbus u f = refl
-replies t (Full g v) o x m Thermostat u f = refl
-replies t Empty o x m Thermostat u f = ap (says _) (chosen bare_said (leb u patience) _ _)
+replies t (Some (g, v)) o x m Thermostat u f = refl
+replies t None o x m Thermostat u f = ap (says _) (chosen bare_said (leb u patience) _ _)
 
-answers : (t : Turn) (h : Slot) (o : Queue) (x : Talker) (m : Status) (f : Frame) →
+answers : (t : Turn) (h : Option (Frame × ℕ)) (o : Option (Query × ℕ)) (x : Talker) (m : Status) (f : Frame) →
     boiler_of (bare_line (line t h o x m)) (bare f) ≡ bare_step (boiler_of (line t h o x m) f)
 unfolding boiler_of refusal
 answers (Rest r) h o x m f = let l = line (Rest r) h o x m in tested bare_step (boiler_checks l f) (refusal l) (ends_of l f (Rest r))
@@ -147,7 +145,7 @@ answers (Talk y q a u) h o x m f =
     ap (judged (boiler_checks l f) (λ n. bare_step (refusal l n))) (replies (Talk y q a u) h o x m y u f)
     ∙ tested bare_step (boiler_checks l f) (refusal l) (answered_of l y u f)
 
-asks : (t : Turn) (h : Slot) (o : Queue) (x : Talker) (m : Status) → under_way (bare_line (line t h o x m)) ≡ under_way (line t h o x m)
+asks : (t : Turn) (h : Option (Frame × ℕ)) (o : Option (Query × ℕ)) (x : Talker) (m : Status) → under_way (bare_line (line t h o x m)) ≡ under_way (line t h o x m)
 unfolding under_way
 asks (Rest r) h o x m = refl
 asks (Talk Thermostat q a u) h o x m = refl
@@ -199,7 +197,7 @@ OwnBare accepted = Unit {0}
 OwnBare (exception n) = Unit {0}
 OwnBare (answer f n) = Unit {0}
 OwnBare (no_answer n) = Unit {0}
-OwnBare (refused n) = Unit {0}
+OwnBare (refused r) = Unit {0}
 
 own_bare : {l : Line} {e : Event} {s : Step} → Happens l e s → OwnBare (note_of s.said)
 own_bare (passing l) = tt
@@ -211,11 +209,11 @@ own_bare (talking l x q a u lt) = tt
 own_bare (relay_silent l q a u ge) = tt
 own_bare (order_silent l q a u ge) = tt
 own_bare (relay_held l f) = tt
-own_bare (relay_refused l f n) = tt
+own_bare (relay_refused l f r) = tt
 own_bare (order_answered l q a u f ma lo hi) = tt
 own_bare (relay_answered l q a u f ma lo hi eh le) = tt
 own_bare (relay_lost l q a u f ma lo hi lost) = tt
-own_bare (boiler_refused l f n un) = tt
+own_bare (boiler_refused l f r un) = tt
 own_bare (order_lacking l w lack) = tt
 own_bare (order_taken l w has free) = tt
 own_bare (order_busy l w has under) = tt

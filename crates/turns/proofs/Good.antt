@@ -6,6 +6,7 @@ use mathlib.Core.Path.{◌≡◌, sym, ap, ◌∙◌}
 use mathlib.Core.Logic.{⊎_elim}
 use mathlib.Core.Bool.{true}
 use mathlib.Core.List.{[], ◌∷◌}
+use Rattle.refusals.specs.declared.Refusal.TheVariants.{WrongType}
 use Rattle.word.specs.declared.Frame.{Frame}
 use Rattle.word.specs.Checks.{must}
 use Rattle.word.specs.Frame.{matches_of, good_checks}
@@ -31,7 +32,7 @@ unfolding refusal
 held_good l f is =
     ⊎_elim
     (λ x. clash (let z : refused x.0 ≡ held = sym (ap (λ (s : Step). note_of s.said) (of_thermostat l f x.1)) ∙ is in cc))
-    (λ p. passes_good f.word (front (good_checks f.word) (must 6 (asks_by f) ∷ []) p))
+    (λ p. passes_good f.word (front (good_checks f.word) (must WrongType (asks_by f) ∷ []) p))
     (either (thermostat_checks f))
 
 module _ (h : Events) where

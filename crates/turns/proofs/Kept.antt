@@ -1,6 +1,7 @@
 -- What the history knows of the thermostat's frames: where the held one and the one that is out come from, and how long ago.
 --     kept_next   one event
 -- Assumes nothing.
+use Rattle.std.specs.Prelude.{Option, Some, None}
 use Prim.Native.Nat.{ℕ, suc, ◌+◌, ◌<◌, min}
 use mathlib.Core.Path.{◌≡◌, sym, ap, ◌∙◌}
 use mathlib.Core.Logic.{⊎_elim}
@@ -11,9 +12,7 @@ use Rattle.turns.specs.declared.Talker.{Talker}
 use Rattle.turns.specs.declared.Talker.TheVariants.{Thermostat, Modbus}
 use Rattle.turns.specs.declared.Turn.{Turn}
 use Rattle.turns.specs.declared.Turn.TheVariants.{Rest, Talk}
-use Rattle.turns.specs.declared.Slot.{Slot}
-use Rattle.turns.specs.declared.Slot.TheVariants.{Empty, Full}
-use Rattle.turns.specs.Turns.{older, held_older, line_older, ended_of}
+use Rattle.turns.specs.Turns.{older, aged, line_older, ended_of}
 use Rattle.turns.specs.Events.{Event, tick, beat, clock, Events, Notes, sent, note_of}
 use Rattle.turns.specs.Sight.{Came}
 use Rattle.turns.specs.Relay.{NoneHeld, NoneRelayed}
@@ -42,16 +41,16 @@ module _ (h : Events) (s : Notes) where
     pub once : NoneRelayed (H h s) i n
     pub age : Since i n t
 
-  abbrev pub HeldAt : ℕ → Slot → Type 0
-  HeldAt n Empty = Unit {0}
-  HeldAt n (Full f t) = Keeping n f t
+  abbrev pub HeldAt : ℕ → Option (Frame × ℕ) → Type 0
+  HeldAt n None = Unit {0}
+  HeldAt n (Some (f, t)) = Keeping n f t
 
   -- the frame that is out, and that no later one was held where none is held now
-  abbrev pub Newest : ℕ → ℕ → Slot → Type 0
-  Newest i n Empty = NoneHeld (H h s) i n
-  Newest i n (Full f t) = Unit {0}
+  abbrev pub Newest : ℕ → ℕ → Option (Frame × ℕ) → Type 0
+  Newest i n None = NoneHeld (H h s) i n
+  Newest i n (Some (f, t)) = Unit {0}
 
-  pub record Relaying (n : ℕ) (x : Slot) (f : Frame) (t : ℕ) : Type 0 where
+  pub record Relaying (n : ℕ) (x : Option (Frame × ℕ)) (f : Frame) (t : ℕ) : Type 0 where
     pub i : ℕ
     pub j : ℕ
     pub came : Came h s i f
@@ -61,12 +60,12 @@ module _ (h : Events) (s : Notes) where
     pub age : Since i n t
     pub newest : Newest i n x
 
-  abbrev pub OutAt : ℕ → Turn → Slot → Type 0
+  abbrev pub OutAt : ℕ → Turn → Option (Frame × ℕ) → Type 0
   OutAt n (Rest r) x = Unit {0}
   OutAt n (Talk Thermostat f a t) x = Relaying n x f t
   OutAt n (Talk Modbus f a t) x = Unit {0}
 
-  pub record KeptAt (n : ℕ) (t : Turn) (x : Slot) : Type 0 where
+  pub record KeptAt (n : ℕ) (t : Turn) (x : Option (Frame × ℕ)) : Type 0 where
     pub kept : HeldAt n x
     pub out : OutAt n t x
 
@@ -95,7 +94,7 @@ module _ (h : Events) (s : Notes) where
     age = grows o.i n t t' g o.age;
   }
 
-  out_on_lem : (n : ℕ) (x y : Slot) (f : Frame) (t t' : ℕ) → t' ≡ min (t + beat (h n)) 65535 →
+  out_on_lem : (n : ℕ) (x y : Option (Frame × ℕ)) (f : Frame) (t t' : ℕ) → t' ≡ min (t + beat (h n)) 65535 →
       ((i : ℕ) → Newest i n x → Newest i (suc n) y) → Relaying n x f t → Relaying (suc n) y f t'
   out_on_lem n x y f t t' g newest o = record {
     i = o.i;
@@ -109,15 +108,15 @@ module _ (h : Events) (s : Notes) where
   }
 
   -- no tick
-  slot_on : (n : ℕ) (x : Slot) → Calm n → beat (h n) ≡ 0 → HeldAt n x → HeldAt (suc n) x
-  slot_on n Empty c z o = tt
-  slot_on n (Full f t) c z o = kept_on n f t t c (omega (arith, o.age.count)) o
+  slot_on : (n : ℕ) (x : Option (Frame × ℕ)) → Calm n → beat (h n) ≡ 0 → HeldAt n x → HeldAt (suc n) x
+  slot_on n None c z o = tt
+  slot_on n (Some (f, t)) c z o = kept_on n f t t c (omega (arith, o.age.count)) o
 
-  newest_on : (n : ℕ) (x : Slot) → Calm n → (i : ℕ) → Newest i n x → Newest i (suc n) x
-  newest_on n Empty c i o = held_more i n c.unheld o
-  newest_on n (Full f t) c i o = tt
+  newest_on : (n : ℕ) (x : Option (Frame × ℕ)) → Calm n → (i : ℕ) → Newest i n x → Newest i (suc n) x
+  newest_on n None c i o = held_more i n c.unheld o
+  newest_on n (Some (f, t)) c i o = tt
 
-  turn_on : (n : ℕ) (t : Turn) (x : Slot) → Calm n → beat (h n) ≡ 0 → OutAt n t x → OutAt (suc n) t x
+  turn_on : (n : ℕ) (t : Turn) (x : Option (Frame × ℕ)) → Calm n → beat (h n) ≡ 0 → OutAt n t x → OutAt (suc n) t x
   turn_on n (Rest r) x c z o = tt
   turn_on n (Talk Thermostat f a t) x c z o = out_on_lem n x x f t t (omega (arith, o.age.count)) (newest_on n x c) o
   turn_on n (Talk Modbus f a t) x c z o = tt
@@ -129,23 +128,23 @@ module _ (h : Events) (s : Notes) where
       record { kept = slot_on n l.held c z o.kept; out = turn_on n l.turn l.held c z o.out }
 
   -- a tick
-  slot_older : (n : ℕ) (x : Slot) → Calm n → beat (h n) ≡ 1 → HeldAt n x → HeldAt (suc n) (held_older x)
-  unfolding held_older
-  slot_older n Empty c z o = tt
-  slot_older n (Full f t) c z o = kept_on n f t (older t) c (omega arith) o
+  slot_older : (n : ℕ) (x : Option (Frame × ℕ)) → Calm n → beat (h n) ≡ 1 → HeldAt n x → HeldAt (suc n) (aged x)
+  unfolding aged
+  slot_older n None c z o = tt
+  slot_older n (Some (f, t)) c z o = kept_on n f t (older t) c (omega arith) o
 
-  newest_older : (n : ℕ) (x : Slot) → Calm n → (i : ℕ) → Newest i n x → Newest i (suc n) (held_older x)
-  unfolding held_older
-  newest_older n Empty c i o = held_more i n c.unheld o
-  newest_older n (Full f t) c i o = tt
+  newest_older : (n : ℕ) (x : Option (Frame × ℕ)) → Calm n → (i : ℕ) → Newest i n x → Newest i (suc n) (aged x)
+  unfolding aged
+  newest_older n None c i o = held_more i n c.unheld o
+  newest_older n (Some (f, t)) c i o = tt
 
-  turn_older_lem : (n : ℕ) (y : Talker) (f : Frame) (a b t : ℕ) (x : Slot) → Calm n → beat (h n) ≡ 1 → OutAt n (Talk y f a t) x →
-      OutAt (suc n) (Talk y f b (older t)) (held_older x)
-  turn_older_lem n Thermostat f a b t x c z o = out_on_lem n x (held_older x) f t (older t) (omega arith) (newest_older n x c) o
+  turn_older_lem : (n : ℕ) (y : Talker) (f : Frame) (a b t : ℕ) (x : Option (Frame × ℕ)) → Calm n → beat (h n) ≡ 1 → OutAt n (Talk y f a t) x →
+      OutAt (suc n) (Talk y f b (older t)) (aged x)
+  turn_older_lem n Thermostat f a b t x c z o = out_on_lem n x (aged x) f t (older t) (omega arith) (newest_older n x c) o
   turn_older_lem n Modbus f a b t x c z o = tt
 
-  aged : (n : ℕ) (l : Line) (v : ℕ) → h n ≡ tick → stirs (s n) ≡ v → (v ≡ 1 → ⊥) → (v ≡ 2 → ⊥) → HeldAt n l.held → HeldAt (suc n) (held_older l.held)
-  aged n l v e is one two o = slot_older n l.held (calm n v is one two) (ap beat e) o
+  kept_older : (n : ℕ) (l : Line) (v : ℕ) → h n ≡ tick → stirs (s n) ≡ v → (v ≡ 1 → ⊥) → (v ≡ 2 → ⊥) → HeldAt n l.held → HeldAt (suc n) (aged l.held)
+  kept_older n l v e is one two o = slot_older n l.held (calm n v is one two) (ap beat e) o
 
   held_on : (n : ℕ) (l : Line) → beat (h n) ≡ 0 → stirs (s n) ≡ 0 → HeldAt n l.held → HeldAt (suc n) l.held
   held_on n l z is o = slot_on n l.held (calm n 0 is (λ e. omega arith) (λ e. omega arith)) z o
@@ -162,12 +161,12 @@ module _ (h : Events) (s : Notes) where
     age = record { d = 0; real = omega arith; count = omega arith };
   }
 
-  later : (n : ℕ) (t : Turn) (x : Slot) (f : Frame) → beat (h n) ≡ 0 → OutAt n t x → OutAt (suc n) t (Full f 0)
+  later : (n : ℕ) (t : Turn) (x : Option (Frame × ℕ)) (f : Frame) → beat (h n) ≡ 0 → OutAt n t x → OutAt (suc n) t (Some (f, 0))
   later n (Rest r) x f z o = tt
-  later n (Talk Thermostat q a t) x f z o = out_on_lem n x (Full f 0) q t t (omega (arith, o.age.count)) (λ i z. tt) o
+  later n (Talk Thermostat q a t) x f z o = out_on_lem n x (Some (f, 0)) q t t (omega (arith, o.age.count)) (λ i z. tt) o
   later n (Talk Modbus q a t) x f z o = tt
 
-  goes : (n : ℕ) (f : Frame) (t : ℕ) → beat (h n) ≡ 1 → s n ≡ sent Thermostat f → Keeping n f t → Relaying (suc n) Empty f (older t)
+  goes : (n : ℕ) (f : Frame) (t : ℕ) → beat (h n) ≡ 1 → s n ≡ sent Thermostat f → Keeping n f t → Relaying (suc n) None f (older t)
   goes n f t z on o = record {
     i = o.i;
     j = n;
@@ -185,20 +184,20 @@ module _ (h : Events) (s : Notes) where
       KeptAt n l.turn l.held → KeptAt (suc n) S.line.turn S.line.held
   unfolding line_older ended_of
   kept_next n (passing l) e es o = stays n 0 l (ap stirs es) (λ z. omega arith) (λ z. omega arith) (ap beat e) o
-  kept_next n (resting l r lt) e es o = record { kept = aged n l 0 e (ap stirs es) (λ z. omega arith) (λ z. omega arith) o.kept; out = tt }
-  kept_next n (nobody l r ge eh eo) e es o = record { kept = aged n l 0 e (ap stirs es) (λ z. omega arith) (λ z. omega arith) o.kept; out = tt }
+  kept_next n (resting l r lt) e es o = record { kept = kept_older n l 0 e (ap stirs es) (λ z. omega arith) (λ z. omega arith) o.kept; out = tt }
+  kept_next n (nobody l r ge eh eo) e es o = record { kept = kept_older n l 0 e (ap stirs es) (λ z. omega arith) (λ z. omega arith) o.kept; out = tt }
   kept_next n (relay_sent l r f t ge eh first) e es o = record { kept = tt; out = goes n f t (ap beat e) es (rw eh at o.kept) }
   kept_next n (order_sent l r w u ge eo first) e es o =
-      record { kept = aged n l 4 e (ap stirs es) (λ z. omega arith) (λ z. omega arith) o.kept; out = tt }
+      record { kept = kept_older n l 4 e (ap stirs es) (λ z. omega arith) (λ z. omega arith) o.kept; out = tt }
   kept_next n (talking l x q a u lt) e es o =
       record {
-        kept = aged n l 0 e (ap stirs es) (λ z. omega arith) (λ z. omega arith) o.kept;
+        kept = kept_older n l 0 e (ap stirs es) (λ z. omega arith) (λ z. omega arith) o.kept;
         out = turn_older_lem n x q a (older a) u l.held (calm n 0 (ap stirs es) (λ z. omega arith) (λ z. omega arith)) (ap beat e) o.out;
       }
   kept_next n (relay_silent l q a u ge) e es o =
-      record { kept = aged n l 0 e (ap stirs es) (λ z. omega arith) (λ z. omega arith) o.kept; out = tt }
+      record { kept = kept_older n l 0 e (ap stirs es) (λ z. omega arith) (λ z. omega arith) o.kept; out = tt }
   kept_next n (order_silent l q a u ge) e es o =
-      record { kept = aged n l 0 e (ap stirs es) (λ z. omega arith) (λ z. omega arith) o.kept; out = tt }
+      record { kept = kept_older n l 0 e (ap stirs es) (λ z. omega arith) (λ z. omega arith) o.kept; out = tt }
   kept_next n (relay_held l f) e es o =
       record { kept = comes n f (record { frame = e; is_held = es }); out = later n l.turn l.held f (ap beat e) o.out }
   kept_next n (relay_refused l f r) e es o = stays n 0 l (ap stirs es) (λ z. omega arith) (λ z. omega arith) (ap beat e) o

@@ -7,6 +7,8 @@ use mathlib.Core.Logic.{◌⊎◌, inl, inr, ⊎_elim}
 use mathlib.Core.Bool.{false}
 use native.Mathlib.Omega.{arith}
 use Rattle.word.proofs.Clash.{clash}
+use Rattle.refusals.specs.declared.Refusal.{Refusal}
+use Rattle.refusals.specs.declared.Refusal.TheVariants.{OutOfTime, NoMatch, SpareBits}
 use Rattle.word.specs.declared.Frame.{Frame}
 use Rattle.word.specs.Frame.{matches_of}
 use Rattle.word.specs.Checks.{Fails}
@@ -49,7 +51,7 @@ module _ (h : Events) where
 
   -- ---- 16, 7 and 8
 
-  refused_with : (n : ℕ) (b : Frame) (r : ℕ) → h n ≡ boiler b → Fails (boiler_checks (line_at h n) b) r → notes h n ≡ refused r
+  refused_with : (n : ℕ) (b : Frame) (r : Refusal) → h n ≡ boiler b → Fails (boiler_checks (line_at h n) b) r → notes h n ≡ refused r
   unfolding said_at refusal
   refused_with n b r is fails =
       ap (λ (e : Event). note_of (do_of (line_at h n) e).said) is ∙ ap (λ (S : Step). note_of S.said) (of_boiler (line_at h n) b fails)
@@ -67,7 +69,7 @@ module _ (h : Events) where
       upto = omega (arith, o.out.age);
     }
 
-    deaf : (t : Turn) → L.turn ≡ t → TurnAt h (notes h) n t L.last → ((q : Frame) → Listens (H h) n q → ⊥) → Fails (boiler_checks L b) 7
+    deaf : (t : Turn) → L.turn ≡ t → TurnAt h (notes h) n t L.last → ((q : Frame) → Listens (H h) n q → ⊥) → Fails (boiler_checks L b) OutOfTime
     deaf (Rest r) is o none = at_rest b L sound.good sound.typed r is
     deaf (Talk x q a u) is o none =
         ⊎_elim
@@ -80,7 +82,7 @@ module _ (h : Events) where
         (side a 84)
 
     unlike : (t : Turn) → L.turn ≡ t → TurnAt h (notes h) n t L.last → (q : Frame) (o : Listens (H h) n q) → matches_of q.word b.word ≡ false →
-        Fails (boiler_checks L b) 8
+        Fails (boiler_checks L b) NoMatch
     unlike (Rest r) is rests q o off =
         absurd (goes_on n o.x o.j q o.talks (rests.all o.j o.x q o.talks.latest.before o.talks.latest.out))
     unlike (Talk y p a u) is talks q o off =
@@ -94,9 +96,9 @@ module _ (h : Events) where
 
   pub boiler_meets : Meets (H h)
   boiler_meets = record {
-    seven = λ n b sound none. refused_with n b 7 sound.frame (deaf n b sound (line_at h n).turn refl (known h n).turn none);
-    eight = λ n b q sound o off. refused_with n b 8 sound.frame (unlike n b sound (line_at h n).turn refl (known h n).turn q o off);
-    sixteen = λ n b is even set. refused_with n b 16 is (word_boiler b (line_at h n) (spare_fails b.word even set));
+    seven = λ n b sound none. refused_with n b OutOfTime sound.frame (deaf n b sound (line_at h n).turn refl (known h n).turn none);
+    eight = λ n b q sound o off. refused_with n b NoMatch sound.frame (unlike n b sound (line_at h n).turn refl (known h n).turn q o off);
+    sixteen = λ n b is even set. refused_with n b SpareBits is (word_boiler b (line_at h n) (spare_fails b.word even set));
   }
 
   -- ---- an answer to the thermostat
@@ -145,11 +147,11 @@ module _ (h : Events) where
     meets (relay_silent l q a u ge) e o = let z = ap boils (sym e ∙ an.answers.frame) in absurd (omega arith)
     meets (order_silent l q a u ge) e o = let z = ap boils (sym e ∙ an.answers.frame) in absurd (omega arith)
     meets (relay_held l g) e o = let z = ap boils (sym e ∙ an.answers.frame) in absurd (omega arith)
-    meets (relay_refused l g n) e o = let z = ap boils (sym e ∙ an.answers.frame) in absurd (omega arith)
+    meets (relay_refused l g r) e o = let z = ap boils (sym e ∙ an.answers.frame) in absurd (omega arith)
     meets (order_answered l q a u c ma lo hi) e o = let not-mine = (mine Modbus q a o.turn).talker in clash cc
     meets (relay_answered l q a u c ma lo hi eh le) e o = let is : boiler c ≡ boiler b = sym e ∙ an.answers.frame in inl (let same : c ≡ b = cc in ap passed same)
     meets (relay_lost l q a u c ma lo hi lost) e o = inr refl
-    meets (boiler_refused l c n un) e o = absurd (unheard l.turn l.last c e o.turn un)
+    meets (boiler_refused l c r un) e o = absurd (unheard l.turn l.last c e o.turn un)
     meets (order_lacking l w lack) e o = let z = ap boils (sym e ∙ an.answers.frame) in absurd (omega arith)
     meets (order_taken l w has free) e o = let z = ap boils (sym e ∙ an.answers.frame) in absurd (omega arith)
     meets (order_busy l w has under) e o = let z = ap boils (sym e ∙ an.answers.frame) in absurd (omega arith)

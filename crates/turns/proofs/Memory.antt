@@ -4,6 +4,7 @@
 --     gives            so the frame of the order that waits is its own
 --     lack, lack_back  the line lacks a status exactly where the history does
 -- Assumes nothing.
+use Rattle.std.specs.Prelude.{Option, Some, None, is_none}
 use Prim.Native.Nat.{ℕ, zero, suc, ◌*◌, ◌/◌, ◌<◌}
 use mathlib.Core.Path.{◌≡◌, refl, ap, ◌∙◌, subst}
 use mathlib.Core.Bool.{Bool, true, false, cond, ◌&&◌, ◌||◌}
@@ -20,13 +21,9 @@ use Rattle.word.specs.Fields.{BuiltFrom}
 use Rattle.turns.specs.Line.{Line, Step}
 use Rattle.turns.specs.declared.Query.{Query}
 use Rattle.turns.specs.declared.Talker.TheVariants.{Thermostat}
-use Rattle.turns.specs.declared.Queue.{Queue}
-use Rattle.turns.specs.declared.Queue.TheVariants.{Nothing, Waits}
 use Rattle.turns.specs.declared.Status.{Status}
-use Rattle.turns.specs.declared.Flags.{Flags}
-use Rattle.turns.specs.declared.Flags.TheVariants.{Unknown, Known}
-use Rattle.turns.specs.Status.{heating, ventilation, exchanges_of, keeps_of, shows_of, flags_for, unknown_of, lacks_of, byte_of, status_word, word_by}
-use Rattle.turns.specs.Turns.{order_older, line_older, ended_of}
+use Rattle.turns.specs.Status.{heating, ventilation, exchanges_of, keeps_of, shows_of, flags_for, lacks_of, status_word, word_by}
+use Rattle.turns.specs.Turns.{aged, line_older, ended_of}
 use Rattle.turns.specs.Events.{Event, Note, sent, Events, Notes, note_of, about, relays}
 use Rattle.turns.specs.Exchange.{Exchanges, Shows, LastShown, Own, plain, status, Lacks}
 use Rattle.turns.specs.History.{line_at, said_at, notes}
@@ -67,14 +64,14 @@ data Changes (m : Status) (t : Note) : Status → Type 0 where
 
 module _ (s : Notes) where
   -- the flags x are those of the last frame with the id i before event n
-  abbrev Agrees : ℕ → ℕ → Flags → Type 0
-  Agrees i n Unknown = (m : ℕ) (f : Frame) → m < n → Shows s i m f → ⊥
-  Agrees i n (Known b) = (f : Frame) × LastShown s i n f × (value_of f.word / 256 ≡ b)
+  abbrev Agrees : ℕ → ℕ → Option ℕ → Type 0
+  Agrees i n None = (m : ℕ) (f : Frame) → m < n → Shows s i m f → ⊥
+  Agrees i n (Some b) = (f : Frame) × LastShown s i n f × (value_of f.word / 256 ≡ b)
 
   -- nothing is shown at event n
-  quiet : (i n : ℕ) (x : Flags) → ((f : Frame) → Shows s i n f → ⊥) → Agrees i n x → Agrees i (suc n) x
-  quiet i n Unknown off a = λ m f lt sh. ⊎_elim (λ l. a m f l sh) (λ (is : m ≡ n). off f (subst (λ (k : ℕ). Shows s i k f) is sh)) (last_or m n lt)
-  quiet i n (Known b) off a =
+  quiet : (i n : ℕ) (x : Option ℕ) → ((f : Frame) → Shows s i n f → ⊥) → Agrees i n x → Agrees i (suc n) x
+  quiet i n None off a = λ m f lt sh. ⊎_elim (λ l. a m f l sh) (λ (is : m ≡ n). off f (subst (λ (k : ℕ). Shows s i k f) is sh)) (last_or m n lt)
+  quiet i n (Some b) off a =
       let l = a.1 in (
         a.0,
         record {
@@ -88,7 +85,7 @@ module _ (s : Notes) where
       )
 
   -- the frame f goes out for the thermostat at event n
-  shown : (i n : ℕ) (x : Flags) (f : Frame) → s n ≡ sent Thermostat f → Agrees i n x → Agrees i (suc n) (keeps_of i x f)
+  shown : (i n : ℕ) (x : Option ℕ) (f : Frame) → s n ≡ sent Thermostat f → Agrees i n x → Agrees i (suc n) (keeps_of i x f)
   unfolding keeps_of
   shown i n x f es a = go (eqb (type_of f.word) read_data) (eqb (id_of f.word) i) refl refl
     where
@@ -131,33 +128,33 @@ module _ (s : Notes) where
   flags n m i (inr e) a = rw e a.vents
 
   pub lack : (n : ℕ) (m : Status) (w : Query) → Agree n m → lacks_of m w ≡ true → Lacks s n w
-  unfolding lacks_of unknown_of
+  unfolding lacks_of
   lack n m w a e =
-      let b = both (exchanges_of w) (unknown_of (flags_for m (id_of w.word))) e in
+      let b = both (exchanges_of w) (is_none (flags_for m (id_of w.word))) e in
       let x = exchanges w b.0 in
       record { exchange = x; never = never (flags_for m (id_of w.word)) b.1 (flags n m (id_of w.word) x.named a) }
     where
-      never : (x : Flags) → unknown_of x ≡ true → Agrees (id_of w.word) n x → (k : ℕ) (f : Frame) → k < n → Shows s (id_of w.word) k f → ⊥
-      never Unknown is ag = ag
-      never (Known b) is ag = clash cc
+      never : (x : Option ℕ) → is_none x ≡ true → Agrees (id_of w.word) n x → (k : ℕ) (f : Frame) → k < n → Shows s (id_of w.word) k f → ⊥
+      never None is ag = ag
+      never (Some b) is ag = clash cc
 
   pub lack_back : (n : ℕ) (m : Status) (w : Query) → Agree n m → Lacks s n w → lacks_of m w ≡ true
-  unfolding lacks_of unknown_of
+  unfolding lacks_of
   lack_back n m w a l =
       rw (exchanged w l.exchange) (go (flags_for m (id_of w.word)) (flags n m (id_of w.word) l.exchange.named a))
     where
-      go : (x : Flags) → Agrees (id_of w.word) n x → unknown_of x ≡ true
-      go Unknown ag = refl
-      go (Known b) ag = absurd (l.never ag.1.m ag.0 ag.1.before ag.1.shows)
+      go : (x : Option ℕ) → Agrees (id_of w.word) n x → is_none x ≡ true
+      go None ag = refl
+      go (Some b) ag = absurd (l.never ag.1.m ag.0 ag.1.before ag.1.shows)
 
   -- what goes out is the query's own frame
   own_of : (n : ℕ) (m : Status) (w : Query) → Agree n m → lacks_of m w ≡ false → Own s n w (own m w)
-  unfolding lacks_of unknown_of word_by byte_of id_of value_of
+  unfolding lacks_of word_by id_of value_of
   own_of n m w a has = go (exchanges_of w) refl
     where
-      known : (x : Flags) → flags_for m (id_of w.word) ≡ x → exchanges_of w ≡ true → Agrees (id_of w.word) n x → Own s n w (own m w)
-      known Unknown ex eb ag = let no : true ≡ false = rw (eb, ex) at has in clash cc
-      known (Known b) ex eb ag =
+      known : (x : Option ℕ) → flags_for m (id_of w.word) ≡ x → exchanges_of w ≡ true → Agrees (id_of w.word) n x → Own s n w (own m w)
+      known None ex eb ag = let no : true ≡ false = rw (eb, ex) at has in clash cc
+      known (Some b) ex eb ag =
           let f = ag.0 in
           let hi : value_of f.word / 256 ≡ b = ag.2 in
           status (exchanges w eb) f ag.1
@@ -180,42 +177,42 @@ changes (talking l x q a u lt) = keeping (λ on. omega arith)
 changes (relay_silent l q a u ge) = keeping (λ on. omega arith)
 changes (order_silent l q a u ge) = keeping (λ on. omega arith)
 changes (relay_held l f) = keeping (λ on. omega arith)
-changes (relay_refused l f n) = keeping (λ on. omega arith)
+changes (relay_refused l f r) = keeping (λ on. omega arith)
 changes (order_answered l q a u f ma lo hi) = keeping (λ on. omega arith)
 changes (relay_answered l q a u f ma lo hi eh le) = keeping (λ on. omega arith)
 changes (relay_lost l q a u f ma lo hi lost) = keeping (λ on. omega arith)
-changes (boiler_refused l f n un) = keeping (λ on. omega arith)
+changes (boiler_refused l f r un) = keeping (λ on. omega arith)
 changes (order_lacking l w lack) = keeping (λ on. omega arith)
 changes (order_taken l w has free) = keeping (λ on. omega arith)
 changes (order_busy l w has under) = keeping (λ on. omega arith)
 
 -- an order that waits is no status question, or its status is known
-abbrev Sure : Queue → Status → Type 0
-Sure Nothing m = Unit {0}
-Sure (Waits w u) m = lacks_of m w ≡ false
+abbrev Sure : Option (Query × ℕ) → Status → Type 0
+Sure None m = Unit {0}
+Sure (Some (w, u)) m = lacks_of m w ≡ false
 
-sure_older : (o : Queue) (m : Status) → Sure o m → Sure (order_older o) m
-unfolding order_older
-sure_older Nothing m z = tt
-sure_older (Waits w u) m z = z
+sure_older : (o : Option (Query × ℕ)) (m : Status) → Sure o m → Sure (aged o) m
+unfolding aged
+sure_older None m z = tt
+sure_older (Some (w, u)) m z = z
 
 -- what is known stays known
-known_stays : (i : ℕ) (x : Flags) (f : Frame) → unknown_of x ≡ false → unknown_of (keeps_of i x f) ≡ false
-unfolding keeps_of unknown_of
+known_stays : (i : ℕ) (x : Option ℕ) (f : Frame) → is_none x ≡ false → is_none (keeps_of i x f) ≡ false
+unfolding keeps_of
 known_stays i x f z = go (eqb (type_of f.word) read_data) (eqb (id_of f.word) i) refl refl
   where
-    go : (p q : Bool) → eqb (type_of f.word) read_data ≡ p → eqb (id_of f.word) i ≡ q → unknown_of (keeps_of i x f) ≡ false
+    go : (p q : Bool) → eqb (type_of f.word) read_data ≡ p → eqb (id_of f.word) i ≡ q → is_none (keeps_of i x f) ≡ false
     go true true ep eq = rw (ep, eq)
     go true false ep eq = rw (ep, eq) z
     go false q ep eq = rw ep z
 
-sure_shows : (o : Queue) (m : Status) (f : Frame) → Sure o m → Sure o (shows_of m f)
+sure_shows : (o : Option (Query × ℕ)) (m : Status) (f : Frame) → Sure o m → Sure o (shows_of m f)
 unfolding lacks_of flags_for shows_of
-sure_shows Nothing m f z = tt
-sure_shows (Waits w u) m f z = go (exchanges_of w) (eqb (id_of w.word) heating) z
+sure_shows None m f z = tt
+sure_shows (Some (w, u)) m f z = go (exchanges_of w) (eqb (id_of w.word) heating) z
   where
-    go : (x b : Bool) → (x && unknown_of (cond b m.heating m.ventilation)) ≡ false →
-        (x && unknown_of (cond b (keeps_of heating m.heating f) (keeps_of ventilation m.ventilation f))) ≡ false
+    go : (x b : Bool) → (x && is_none (cond b m.heating m.ventilation)) ≡ false →
+        (x && is_none (cond b (keeps_of heating m.heating f) (keeps_of ventilation m.ventilation f))) ≡ false
     go false b z = refl
     go true true z = known_stays heating m.heating f z
     go true false z = known_stays ventilation m.ventilation f z
@@ -225,17 +222,17 @@ unfolding line_older ended_of
 sure_next (passing l) z = z
 sure_next (resting l r lt) z = sure_older l.order l.status z
 sure_next (nobody l r ge eh eo) z = sure_older l.order l.status z
-sure_next (relay_sent l r f t ge eh first) z = sure_shows (order_older l.order) l.status f (sure_older l.order l.status z)
+sure_next (relay_sent l r f t ge eh first) z = sure_shows (aged l.order) l.status f (sure_older l.order l.status z)
 sure_next (order_sent l r w u ge eo first) z = tt
 sure_next (talking l x q a u lt) z = sure_older l.order l.status z
 sure_next (relay_silent l q a u ge) z = sure_older l.order l.status z
 sure_next (order_silent l q a u ge) z = tt
 sure_next (relay_held l f) z = z
-sure_next (relay_refused l f n) z = z
+sure_next (relay_refused l f r) z = z
 sure_next (order_answered l q a u f ma lo hi) z = tt
 sure_next (relay_answered l q a u f ma lo hi eh le) z = z
 sure_next (relay_lost l q a u f ma lo hi lost) z = z
-sure_next (boiler_refused l f n un) z = z
+sure_next (boiler_refused l f r un) z = z
 sure_next (order_lacking l w lack) z = z
 sure_next (order_taken l w has free) z = has
 sure_next (order_busy l w has under) z = z
@@ -253,4 +250,4 @@ sure h zero = tt
 sure h (suc n) = sure_next (happens (line_at h n) (h n)) (sure h n)
 
 pub gives : (h : Events) (n : ℕ) → Gives (Own (notes h) n) (line_at h n)
-gives h n w u e = own_of (notes h) n (line_at h n).status w (agrees h n) (subst (λ (o : Queue). Sure o (line_at h n).status) e (sure h n))
+gives h n w u e = own_of (notes h) n (line_at h n).status w (agrees h n) (subst (λ (o : Option (Query × ℕ)). Sure o (line_at h n).status) e (sure h n))

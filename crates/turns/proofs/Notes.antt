@@ -15,7 +15,7 @@ said_by accepted = Taken
 said_by (exception n) = Exception n
 said_by (answer f n) = Answer f n
 said_by (no_answer n) = NoAnswer n
-said_by (refused n) = Refused n
+said_by (refused r) = Refused r
 
 pub said_back : (s : Said) → said_by (note_of s) ≡ s
 said_back Quiet = refl
@@ -27,4 +27,4 @@ said_back Taken = refl
 said_back (Exception n) = refl
 said_back (Answer f n) = refl
 said_back (NoAnswer n) = refl
-said_back (Refused n) = refl
+said_back (Refused r) = refl

@@ -35,7 +35,7 @@ speaks accepted = 0
 speaks (exception n) = 0
 speaks (answer f n) = 0
 speaks (no_answer n) = 0
-speaks (refused n) = 0
+speaks (refused r) = 0
 
 pub same_or : (i j : ℕ) → (i ≡ j) ⊎ (i ≡ j → ⊥)
 same_or i j = ⊎_elim (λ (l : i < j). inr (λ (e : i ≡ j). omega arith)) (λ (g : j ≤ i). ⊎_elim (λ (l : j < i). inr (λ (e : i ≡ j). omega arith))

@@ -4,21 +4,16 @@
 --     starting   that one does
 --     turns      the clauses of the promise
 -- Assumes nothing.
+use Rattle.std.specs.Prelude.{Option, Some, None, is_some}
 use Prim.Native.Nat.{ℕ, ◌≤◌, ◌<◌}
 use mathlib.Core.Path.{◌≡◌, refl, sym, ap, ◌∙◌}
-use mathlib.Core.Bool.{not}
 use native.Mathlib.Omega.{arith}
 use Rattle.word.specs.declared.Frame.{Frame}
 use Rattle.turns.specs.Line.{Line, Step}
 use Rattle.turns.specs.declared.Query.{Query}
 use Rattle.turns.specs.declared.Talker.{Talker}
 use Rattle.turns.specs.declared.Talker.TheVariants.{Thermostat, Modbus}
-use Rattle.turns.specs.declared.Slot.{Slot}
-use Rattle.turns.specs.declared.Slot.TheVariants.{Empty, Full}
-use Rattle.turns.specs.declared.Queue.{Queue}
-use Rattle.turns.specs.declared.Queue.TheVariants.{Nothing}
-use Rattle.turns.specs.declared.Queue.TheVariants as queue
-use Rattle.turns.specs.Turns.{older, none_held, waits}
+use Rattle.turns.specs.Turns.{older}
 use Rattle.turns.specs.Events.{Event, tick, beat, Events, sent, note_of}
 use Rattle.turns.specs.History.{line_at, said_at, notes}
 use Rattle.turns.specs.Scene.{Last, Waits}
@@ -42,16 +37,16 @@ module _ (h : Events) where
       record { ticks = e; c = o.c; since = o.since; full = omega (arith, o.count, o.begun) }
 
   -- where the thermostat goes first, and where the order does
-  after_relay : (n : ℕ) (o : Queue) (z : Talker) → RelayFirst o z → Waiting h (notes h) n Modbus (waits o) → Last (H h) n z → Waits (H h) Modbus n → Last (H h) n Modbus
-  after_relay n Nothing z first none last w = absurd (none w)
-  after_relay n (queue.Waits v u) Modbus first some last w = last
-  after_relay n (queue.Waits v u) Thermostat first some last w = absurd first
+  after_relay : (n : ℕ) (o : Option (Query × ℕ)) (z : Talker) → RelayFirst o z → Waiting h (notes h) n Modbus (is_some o) → Last (H h) n z → Waits (H h) Modbus n → Last (H h) n Modbus
+  after_relay n None z first none last w = absurd (none w)
+  after_relay n (Some (v, u)) Modbus first some last w = last
+  after_relay n (Some (v, u)) Thermostat first some last w = absurd first
 
-  after_order : (n : ℕ) (x : Slot) (z : Talker) → OrderFirst x z → Waiting h (notes h) n Thermostat (not (none_held x)) → Last (H h) n z →
+  after_order : (n : ℕ) (x : Option (Frame × ℕ)) (z : Talker) → OrderFirst x z → Waiting h (notes h) n Thermostat (is_some x) → Last (H h) n z →
       Waits (H h) Thermostat n → Last (H h) n Thermostat
-  after_order n Empty z first none last w = absurd (none w)
-  after_order n (Full f t) Thermostat first some last w = last
-  after_order n (Full f t) Modbus first some last w = absurd first
+  after_order n None z first none last w = absurd (none w)
+  after_order n (Some (f, t)) Thermostat first some last w = last
+  after_order n (Some (f, t)) Modbus first some last w = absurd first
 
   -- all that is known where a frame goes out for the talker x
   record Sent (n : ℕ) (x : Talker) : Type 0 where
@@ -59,7 +54,7 @@ module _ (h : Events) where
     waited : Waits (H h) x n
     fair : (y : Talker) → Waits (H h) y n → (x ≡ y → ⊥) → Last (H h) n y
 
-  relay_goes : (n r : ℕ) (l : Line) (f : Frame) (t : ℕ) → h n ≡ tick → 100 ≤ older r → l.held ≡ Full f t → RelayFirst l.order l.last →
+  relay_goes : (n r : ℕ) (l : Line) (f : Frame) (t : ℕ) → h n ≡ tick → 100 ≤ older r → l.held ≡ Some (f, t) → RelayFirst l.order l.last →
       RestAt h (notes h) n r l.last → WaitingAt h (notes h) n l.held l.order → Sent n Thermostat
   relay_goes n r l f t e ge eh first o w = record {
     rested = full_rest n r l.last e ge o;
@@ -71,7 +66,7 @@ module _ (h : Events) where
       by Thermostat on off = absurd (off refl)
       by Modbus on off = after_relay n l.order l.last first w.asks o.last on
 
-  order_goes : (n r : ℕ) (l : Line) (v : Query) (u : ℕ) → h n ≡ tick → 100 ≤ older r → l.order ≡ queue.Waits v u → OrderFirst l.held l.last →
+  order_goes : (n r : ℕ) (l : Line) (v : Query) (u : ℕ) → h n ≡ tick → 100 ≤ older r → l.order ≡ Some (v, u) → OrderFirst l.held l.last →
       RestAt h (notes h) n r l.last → WaitingAt h (notes h) n l.held l.order → Sent n Modbus
   order_goes n r l v u e ge eo first o w = record {
     rested = full_rest n r l.last e ge o;
@@ -110,7 +105,7 @@ module _ (h : Events) where
   -- ---- and that something does
 
   -- nobody waits
-  unwaited : (n : ℕ) (l : Line) (x : Talker) → l.held ≡ Empty → l.order ≡ Nothing → WaitingAt h (notes h) n l.held l.order → Waits (H h) x n → ⊥
+  unwaited : (n : ℕ) (l : Line) (x : Talker) → l.held ≡ None → l.order ≡ None → WaitingAt h (notes h) n l.held l.order → Waits (H h) x n → ⊥
   unwaited n l Thermostat eh eo w on = (rw eh at w.relay) on
   unwaited n l Modbus eh eo w on = (rw eo at w.asks) on
 

@@ -35,7 +35,7 @@ bare_note accepted = accepted
 bare_note (exception n) = exception n
 bare_note (answer f n) = answer (bare f) n
 bare_note (no_answer n) = no_answer n
-bare_note (refused n) = refused n
+bare_note (refused r) = refused r
 
 -- two histories in which the same words come, whatever numbers come with them; and the same is said to both, but for these
 abbrev pub SameWords : Events → Events → Type 0

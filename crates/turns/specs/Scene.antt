@@ -3,6 +3,7 @@
 -- Event i is a frame or an order coming, event j a frame going out, event k what ends its talk.
 -- Nothing here knows a line. Assumes nothing: these are definitions.
 use Rattle.std.specs.Prelude.{ℕ, suc, ◌-◌, ◌<◌, ◌≡◌, ◌⊎◌}
+use Rattle.refusals.specs.declared.Refusal.{Refusal}
 use Rattle.word.specs.declared.Frame.{Frame}
 use Rattle.turns.specs.declared.Talker.{Talker}
 use Rattle.turns.specs.declared.Talker.TheVariants.{Thermostat, Modbus}
@@ -18,10 +19,10 @@ pub record Scene : Type 1 where
   pub Boils : ℕ → Frame → Type 0
   -- this frame goes out at event n, for that talker
   pub Goes : Talker → ℕ → Frame → Type 0
-  -- to event n it is said that this frame is passed on to the thermostat, that one is dropped, that one is refused with this number
+  -- to event n it is said that this frame is passed on to the thermostat, that one is dropped, that one is refused with this refusal
   pub Passes : ℕ → Frame → Type 0
   pub Drops : ℕ → Type 0
-  pub Refuses : ℕ → ℕ → Type 0
+  pub Refuses : ℕ → Refusal → Type 0
 
 -- how many ticks come after event i and before event n
 abbrev pub past_on : Scene → ℕ → ℕ → ℕ

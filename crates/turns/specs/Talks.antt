@@ -2,6 +2,7 @@
 -- meets that ends no talk, and which frames get past the line at all.
 -- Nothing here knows a line. Assumes nothing: these are definitions.
 use Rattle.std.specs.Prelude.{ℕ, suc, ◌+◌, ◌≤◌, ◌<◌, ◌≡◌, true, false}
+use Rattle.refusals.specs.declared.Refusal.TheVariants.{OutOfTime, NoMatch, SpareBits}
 use Rattle.word.specs.declared.Frame.{Frame}
 use Rattle.word.specs.Frame.{even_of, spare_of, type_of, matches_of}
 use Rattle.word.specs.Fields.{GoodWord}
@@ -42,11 +43,11 @@ pub record Listens (H : Scene) (n : ℕ) (q : Frame) : Type 0 where
 
 pub record Meets (H : Scene) : Type 0 where
   -- 7: "boiler frame outside a talk's ages 84-874", whatever it would match
-  pub seven : (n : ℕ) (b : Frame) → Sound H n b → ((q : Frame) → Listens H n q → ⊥) → H.Refuses n 7
+  pub seven : (n : ℕ) (b : Frame) → Sound H n b → ((q : Frame) → Listens H n q → ⊥) → H.Refuses n OutOfTime
   -- 8: "boiler frame that doesn't match", where 7 isn't given
-  pub eight : (n : ℕ) (b q : Frame) → Sound H n b → Listens H n q → matches_of q.word b.word ≡ false → H.Refuses n 8
+  pub eight : (n : ℕ) (b q : Frame) → Sound H n b → Listens H n q → matches_of q.word b.word ≡ false → H.Refuses n NoMatch
   -- 16: "spare bits not zero" (02, Ask 1), whoever talks, however long, and whatever else the frame would match
-  pub sixteen : (n : ℕ) (b : Frame) → H.Boils n b → even_of b.word ≡ true → 0 < spare_of b.word → H.Refuses n 16
+  pub sixteen : (n : ℕ) (b : Frame) → H.Boils n b → even_of b.word ≡ true → 0 < spare_of b.word → H.Refuses n SpareBits
 
 -- "Frames with a spare bit set are to be refused at the line, from either side" (02, Ask 1), and those of odd parity: what gets past the line is a
 -- good word
