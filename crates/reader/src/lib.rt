@@ -1,12 +1,13 @@
 // Manchester samples to frames: one sample a byte, 0 idle or 1 active, every 50 µs.
 #![tactic(auto)]
 
-ghost use Rattle.std.specs.Prelude.{◌≡◌, ◌+◌, ◌<◌, min, max};
-ghost use Rattle.std.specs.Bool.{beq};
+ghost use Rattle.std.specs.Prelude.{◌≡◌, ◌+◌};
 ghost use Rattle.reader.specs.Reads.{reader_of, step_is};
 ghost use Rattle.samples.specs.declared.Phase.TheVariants.{Bits};
-ghost use Rattle.samples.specs.Reading.{fresh_of, goes_on, gives, waited_of, start_of, past_edge, farther_of, bit_of, measured as measured_of, with_bit, middle_of, next_of, step_of};
+ghost use Rattle.samples.specs.declared.Answer.TheVariants.{Refused};
+ghost use Rattle.samples.specs.Reading.{fresh_of, goes_on, gives, waited_of, start_of, past_edge, measured as measured_of, with_bit, middle_of, next_of, step_of};
 
+use refusals::Refusal;
 pub use samples::{Answer, Middle, Phase};
 use word::Frame;
 
@@ -52,62 +53,57 @@ impl Reader {
     }
 
     #[tactic(auto, unfolding(samples::specs::Reading::step_of))]
-    pub fn step(mut self, sample: u8) -> Step
+    pub fn step(self, sample: u8) -> Step
         ensures { step_is result ≡ step_of (reader_of self) sample }
     {
         if sample > 1 {
-            return answered(Answer::Refused(4));
+            return refused(Refusal::NoLevel);
         }
         let active = sample == 1;
-        let phase = self.phase;
-        match phase {
-            Phase::Waiting(n) => {
-                self = Reader {
-                    phase: waited(n, active),
-                };
-                Step {
-                    reader: self,
-                    answer: Answer::Nothing,
-                }
-            }
+        match self.phase {
+            Phase::Waiting(n) => still(waited(n, active)),
             Phase::Start(d) => started(d, active),
             Phase::Bits(m) => between(m, active),
         }
     }
 }
 
-fn still(p: Phase) -> Step
-    ensures { step_is result ≡ goes_on p }
+// No answer yet.
+fn still(phase: Phase) -> Step
+    ensures { step_is result ≡ goes_on phase }
 {
     Step {
-        reader: Reader { phase: p },
+        reader: Reader { phase },
         answer: Answer::Nothing,
     }
 }
 
-fn answered(a: Answer) -> Step
-    ensures { step_is result ≡ gives a }
+// After an answer the reader is a fresh one.
+fn answered(answer: Answer) -> Step
+    ensures { step_is result ≡ gives answer }
 {
     Step {
         reader: Reader::fresh(),
-        answer: a,
+        answer,
     }
+}
+
+fn refused(refusal: Refusal) -> Step
+    ensures { step_is result ≡ gives (Refused refusal) }
+{
+    answered(Answer::Refused(refusal))
 }
 
 #[tactic(auto, unfolding(samples::specs::Reading::waited_of))]
 fn waited(n: u8, active: bool) -> Phase
     ensures { result ≡ waited_of n active }
 {
-    if n < Reader::IDLE {
-        if active {
-            Phase::Waiting(0)
-        } else {
-            Phase::Waiting(n + 1)
-        }
-    } else if active {
-        Phase::Start(0)
+    if !active {
+        Phase::Waiting(n.min(Reader::IDLE - 1) + 1)
+    } else if n < Reader::IDLE {
+        Phase::Waiting(0)
     } else {
-        Phase::Waiting(Reader::IDLE)
+        Phase::Start(0)
     }
 }
 
@@ -116,25 +112,25 @@ fn started(before: u8, active: bool) -> Step
     ensures { step_is result ≡ start_of (before + 1) active }
 {
     if before >= Reader::START_TO {
-        return answered(Answer::Refused(2));
+        return refused(Refusal::NoEdge);
     }
     let distance = before + 1;
     if active {
-        return still(Phase::Start(distance));
+        still(Phase::Start(distance))
+    } else if distance < Reader::START_FROM {
+        refused(Refusal::EarlyEdge)
+    } else {
+        // No bit yet, and no distance: the first one is the smallest and the largest.
+        past_edge(
+            1,
+            Frame {
+                word: 0,
+                shortest: 255,
+                longest: 0,
+            },
+            false,
+        )
     }
-    if distance < Reader::START_FROM {
-        return answered(Answer::Refused(1));
-    }
-    // No bit yet, and no distance: the first one is the smallest and the largest.
-    past_edge(
-        1,
-        Frame {
-            word: 0,
-            shortest: 255,
-            longest: 0,
-        },
-        false,
-    )
 }
 
 // Just at a middle edge: the next distance counts from here, so that errors don't add up.
@@ -142,25 +138,11 @@ fn past_edge(edges: u8, frame: Frame, active: bool) -> Step
     ensures { step_is result ≡ goes_on (Bits (past_edge edges frame active)) }
 {
     still(Phase::Bits(Middle {
-        edges: edges,
-        frame: frame,
+        edges,
+        frame,
         distance: 0,
-        active: active,
+        active,
         other: false,
-    }))
-}
-
-// Still after the same middle edge.
-fn farther(m: Middle, distance: u8, active: bool, other: bool) -> Step
-    ensures { step_is result ≡ goes_on (Bits (farther_of m distance active other)) }
-{
-    let frame = m.frame;
-    still(Phase::Bits(Middle {
-        edges: m.edges,
-        frame: frame,
-        distance: distance,
-        active: active,
-        other: other,
     }))
 }
 
@@ -169,79 +151,43 @@ fn between(m: Middle, active: bool) -> Step
     ensures { step_is result ≡ next_of m (m.distance + 1) active }
 {
     if m.distance >= Reader::MIDDLE_TO {
-        return answered(Answer::Refused(2));
+        return refused(Refusal::NoEdge);
     }
     let distance = m.distance + 1;
-    if same(active, m.active) {
-        return farther(m, distance, active, m.other);
-    }
-    if distance >= Reader::MIDDLE_FROM {
-        return at_middle(m, distance, active);
-    }
-    if m.other {
-        return answered(Answer::Refused(1));
-    }
-    if distance < Reader::OTHER_FROM {
-        return answered(Answer::Refused(1));
-    }
-    if distance > Reader::OTHER_TO {
-        return answered(Answer::Refused(1));
-    }
-    farther(m, distance, active, true)
-}
-
-fn same(a: bool, b: bool) -> bool
-    ensures { result ≡ beq a b }
-{
-    if a {
-        if b { true } else { false }
-    } else if b {
-        false
+    if active == m.active {
+        still(Phase::Bits(Middle { distance, ..m }))
+    } else if distance >= Reader::MIDDLE_FROM {
+        at_middle(m, distance, active)
+    } else if m.other || !(Reader::OTHER_FROM..=Reader::OTHER_TO).contains(&distance) {
+        refused(Refusal::EarlyEdge)
     } else {
-        true
+        still(Phase::Bits(Middle {
+            distance,
+            active,
+            other: true,
+            ..m
+        }))
     }
 }
 
-fn bit_of(active: bool) -> u32
-    ensures { (result ≡ bit_of active) × (result < 2) }
-{
-    if active { 0 } else { 1 }
-}
-
+// A falling middle edge is 1, a rising one 0.
 fn with_bit(f: Frame, active: bool) -> Frame
     ensures { result ≡ with_bit f active }
 {
-    let bit = bit_of(active);
-    let word = f.word % 0x8000_0000 * 2 + bit;
     Frame {
-        word: word,
-        shortest: f.shortest,
-        longest: f.longest,
+        word: f.word % 0x8000_0000 * 2 + u32::from(!active),
+        ..f
     }
-}
-
-fn smaller(a: u8, b: u8) -> u8
-    ensures { result ≡ min a b }
-{
-    if a < b { a } else { b }
-}
-
-fn larger(a: u8, b: u8) -> u8
-    ensures { result ≡ max a b }
-{
-    if a < b { b } else { a }
 }
 
 // How straight the edges were, with one distance more.
 fn measured(f: Frame, distance: u8) -> Frame
     ensures { result ≡ measured_of f distance }
 {
-    let shortest = smaller(f.shortest, distance);
-    let longest = larger(f.longest, distance);
     Frame {
-        word: f.word,
-        shortest: shortest,
-        longest: longest,
+        shortest: f.shortest.min(distance),
+        longest: f.longest.max(distance),
+        ..f
     }
 }
 
@@ -251,13 +197,12 @@ fn measured(f: Frame, distance: u8) -> Frame
 fn at_middle(m: Middle, distance: u8, active: bool) -> Step
     ensures { step_is result ≡ middle_of m distance active }
 {
-    let before = m.frame;
-    let frame = measured(before, distance);
-    if m.edges >= Reader::EDGES - 1 {
-        if active {
-            return answered(Answer::Refused(3));
-        }
-        return answered(Answer::Frame(frame));
+    let frame = measured(m.frame, distance);
+    if m.edges < Reader::EDGES - 1 {
+        past_edge(m.edges + 1, with_bit(frame, active), active)
+    } else if active {
+        refused(Refusal::NoStopBit)
+    } else {
+        answered(Answer::Frame(frame))
     }
-    past_edge(m.edges + 1, with_bit(frame, active), active)
 }

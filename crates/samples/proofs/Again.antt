@@ -7,12 +7,14 @@ use Prim.Native.Nat.{ℕ, zero, suc, ◌+◌, ◌^◌, ◌≤◌, ◌<◌}
 use native.Mathlib.Omega.{arith}
 use lib.ListN.{replicate}
 use Rattle.word.proofs.Clash.{clash}
+use Rattle.refusals.specs.declared.Refusal.{Refusal}
+use Rattle.refusals.specs.Numbers.{number_of}
 use Rattle.samples.specs.declared.Answer.{Answer}
 use Rattle.samples.specs.declared.Phase.TheVariants.{Waiting}
 use Rattle.samples.proofs.Cases.{more_idle, too_soon, a_sample}
 use Rattle.samples.specs.declared.Answer.TheVariants.{Nothing, Refused}
 use Rattle.samples.specs.Reader.{Reader, Step}
-use Rattle.samples.specs.Answers.{number_of, frame}
+use Rattle.samples.specs.Answers.{frame}
 use Rattle.samples.specs.Reading.{fresh_of, goes_on, step_of}
 use Rattle.samples.specs.Run.{Answered, answers_of, none}
 use Rattle.samples.specs.Written.{samples_of}
@@ -33,10 +35,10 @@ pub read_back_again : (r : Reader) (s : ℕ) → Answered r s → (w : ℕ) → 
 read_back_again r s h w f = ap (λ (q : Reader). answers_of q (replicate 24 0 ++ samples_of w)) (again r s h) ∙ read_back w f
 
 -- "1, 2, 3, 4: samples, as above": whatever the reader holds and whatever the sample is, a refusal has one of these numbers
-pub numbers : (r : Reader) (s n : ℕ) → (step_of r s).answer ≡ Refused n → (1 ≤ n) × (n ≤ 4)
+pub numbers : (r : Reader) (s : ℕ) (x : Refusal) → (step_of r s).answer ≡ Refused x → (1 ≤ number_of x) × (number_of x ≤ 4)
 numbers =
-    every (λ x. (n : ℕ) → x.answer ≡ Refused n → (1 ≤ n) × (n ≤ 4)) (λ p n e. clash cc) (λ w n e. clash cc)
-    (λ m g h n e. let f = ap number_of e in (omega arith, omega arith))
+    every (λ y. (x : Refusal) → y.answer ≡ Refused x → (1 ≤ number_of x) × (number_of x ≤ 4)) (λ p x e. clash cc) (λ w x e. clash cc)
+    (λ m g h x e. let f : number_of m ≡ number_of x = cc in (omega arith, omega arith))
 
 -- "waits for 24 idle samples in a row; .. an active one starts the count again": nothing is said to it, and the reader is as a fresh one
 pub counts_again : (n : ℕ) (l : List ℕ) → n < 24 → answers_of fresh_of (replicate n 0 ++ (1 ∷ l)) ≡ none (suc n) ++ answers_of fresh_of l

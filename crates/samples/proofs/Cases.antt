@@ -1,7 +1,7 @@
 -- What one sample does, case by case: the tests of 01's sentences from facts on the numbers.
 -- Assumes nothing.
-use mathlib.Core.Path.{◌≡◌, refl, ap}
-use mathlib.Core.Bool.{Bool, true, false, ◌&&◌, beq}
+use mathlib.Core.Path.{◌≡◌, ap}
+use mathlib.Core.Bool.{Bool, true, false, and-false, beq}
 use Prim.Native.Nat.{ℕ, ◌+◌, ◌≤◌, ◌<◌, min}
 use native.Mathlib.Omega.{arith}
 use borrow.Author.Tests.{lt-ltb, le-ltb, le-leb, lt-leb}
@@ -12,10 +12,6 @@ use Rattle.samples.specs.declared.Answer.TheVariants.{Frame}
 use Rattle.samples.specs.Reader.{Reader}
 use Rattle.samples.specs.Answers.{early, late, no_stop, no_sample}
 use Rattle.samples.specs.Reading.{gives, goes_on, waited_of, start_of, begun, past_edge, farther_of, bit_of, measured, with_bit, middle_of, next_of, taken_by, step_of}
-
-and-false : (b : Bool) → b && false ≡ false
-and-false true = refl
-and-false false = refl
 
 module _ (n : ℕ) where
   pub more_idle : n < 24 → waited_of n false ≡ Waiting (n + 1)

@@ -160,7 +160,7 @@ alike r (suc s) m n x y h e g =
 frame_in : Answer → Frame
 frame_in answer.Nothing = begun
 frame_in (answer.Frame f) = f
-frame_in (answer.Refused n) = begun
+frame_in (answer.Refused r) = begun
 
 module _ (l : List ℕ) where
   abbrev end : {f : Frame} → Heard l f → List ℕ

@@ -2,7 +2,7 @@
 -- edges, and its two numbers are the smallest and the largest of their distances (02, Ask 3), so they lie between 18 and 23.
 -- Assumes nothing.
 use mathlib.Core.Path.{◌≡◌, refl, sym, ap, ◌∙◌, subst}
-use mathlib.Core.Bool.{Bool, true, false, not}
+use mathlib.Core.Bool.{Bool, true, false, not, not-not}
 use mathlib.Core.List.{List, [], ◌∷◌, ◌++◌, append_assoc, append-nil}
 use mathlib.Core.Logic.{◌⊎◌, inl, inr}
 use Prim.Native.Nat.{ℕ, zero, suc, ◌+◌, ◌-◌, ◌≤◌, ◌<◌}
@@ -21,7 +21,7 @@ use Rattle.samples.specs.Edges.{level_of, Stretch, plain, crossed, AllAllowed, l
 use Rattle.samples.proofs.Cases.{bad_sample}
 use Rattle.samples.proofs.Straight.{between}
 use Rattle.samples.proofs.Again.{again}
-use Rattle.samples.proofs.Stretches.{not_not, md, mid, same_level, at_second, at_early, at_gap, at_24, at_other, Open, leg_end, so_far}
+use Rattle.samples.proofs.Stretches.{md, mid, same_level, at_second, at_early, at_gap, at_24, at_other, Open, leg_end, so_far}
 use Rattle.samples.proofs.Told.{Told, waits, starts, follows, Next, goes, refuses, snoc, behind, wait_next, start_next}
 use Rattle.samples.proofs.ToldEdge.{edge_next}
 
@@ -107,7 +107,7 @@ module _ (h b : List ℕ) (s : ℕ) (l : List Stretch) (hs : (8 ≤ s) × (s ≤
     crossed_edge : Dec (d < 18) → Dec (d < 24) → Next h (level_of (not (not c))) (at' (level_of (not (not c))))
     crossed_edge (yes u) v = refuses h (level_of (not (not c))) _ (at_second k (so_far l) (d - 1) (not c) true (omega arith) refl)
     crossed_edge (no u) (yes v) =
-        subst (λ (a : Bool). Next h (level_of a) (at' (level_of a))) (sym (not_not c))
+        subst (λ (a : Bool). Next h (level_of a) (at' (level_of a))) (sym (not-not c))
         (edge_next h b s l (crossed q d) hs hl len e (omega arith, omega arith, omega arith, omega arith))
     crossed_edge (no u) (no v) = refuses h (level_of (not (not c))) _ (at_24 k (so_far l) (d - 1) (not c) true (not (not c)) (omega arith))
 
@@ -138,7 +138,7 @@ next_told h r x t = go (step_of r x).answer refl
     go : (y : Answer) → (step_of r x).answer ≡ y → Told (h ++ (x ∷ [])) (step_of r x).reader
     go answer.Nothing e = (told_next h r x t).on e
     go (answer.Frame f) e = fresh (λ z. clash cc)
-    go (answer.Refused n) e = fresh (λ z. clash cc)
+    go (answer.Refused x) e = fresh (λ z. clash cc)
 
 from : (h : List ℕ) (r : Reader) (l : List ℕ) (n : ℕ) (f : Frame) → Told h r → get_or (answers_of r l) n answer.Nothing ≡ answer.Frame f →
     Heard (h ++ take (suc n) l) f

@@ -6,6 +6,8 @@ use Prim.Native.Nat.{ℕ, ◌+◌, ◌≤◌}
 use native.Mathlib.Omega.{arith}
 use lib.Dec.{leb, ltb, eqb}
 use Rattle.word.specs.declared.Frame.{Frame}
+use Rattle.refusals.specs.declared.Refusal.{Refusal}
+use Rattle.refusals.specs.Numbers.{number_of}
 use Rattle.samples.specs.declared.Middle.{Middle}
 use Rattle.samples.specs.declared.Phase.{Phase}
 use Rattle.samples.specs.declared.Phase.TheVariants.{Waiting, Start, Bits}
@@ -14,7 +16,7 @@ use Rattle.samples.specs.Reader.{Reader, Step}
 use Rattle.samples.specs.Reading.{goes_on, gives, within, start_of, middle_of, next_of, taken_by, step_of}
 
 module _ (P : Step → Type 0) (on : (p : Phase) → P (goes_on p)) (frame : (f : Frame) → P (gives (answer.Frame f)))
-    (refused : (n : ℕ) → 1 ≤ n → n ≤ 4 → P (gives (answer.Refused n))) where
+    (refused : (r : Refusal) → 1 ≤ number_of r → number_of r ≤ 4 → P (gives (answer.Refused r))) where
   either : (b : Bool) (x y : Step) → P x → P y → P (cond b x y)
   either true x y h g = h
   either false x y h g = g

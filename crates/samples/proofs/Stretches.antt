@@ -1,7 +1,7 @@
 -- The reader along a line that keeps to 01's distances: quiet up to each middle edge, whose bit it takes.
 -- Assumes nothing.
 use mathlib.Core.Path.{◌≡◌, refl, sym, ap, ◌∙◌, subst}
-use mathlib.Core.Bool.{Bool, true, false, not, beq}
+use mathlib.Core.Bool.{Bool, true, false, not, not-not, beq}
 use mathlib.Core.List.{List, [], ◌∷◌, ◌++◌, append_assoc, append-nil}
 use Prim.Native.Nat.{ℕ, zero, suc, ◌+◌, ◌*◌, ◌-◌, ◌^◌, ◌≤◌, ◌<◌}
 use native.Mathlib.Nat.{pow-suc, mod-eq_of_lt}
@@ -105,10 +105,6 @@ leg k f a (crossed e d) h =
     rw z at (join (one (level_of (not a)) (at_other k f (e - 1) a (omega arith) (omega arith))) (hold k f true (not a) (d - e - 1) (e - 1 + 1) (omega arith))) in
     join p (rw y q)
 
-pub not_not : (a : Bool) → not (not a) ≡ a
-not_not true = refl
-not_not false = refl
-
 -- the middle edge at the end of a stretch
 pub leg_edge : (k : ℕ) (f : Frame) (a : Bool) (t : Stretch) → Allowed t →
     step_of (leg_end k f a t) (level_of (turned a t)) ≡ middle_of (after_leg k f a t) (distance_of t) (turned a t)
@@ -117,7 +113,7 @@ leg_edge k f a (plain d) h =
     at_middle k f (d - 1) a false (omega arith) (omega arith) ∙ ap (λ (y : ℕ). middle_of (md k f (d - 1) a false) y (not a)) n
 leg_edge k f a (crossed e d) h =
     let n : d - 1 + 1 ≡ d = omega arith in
-    subst (λ (b : Bool). step_of (mid k f (d - 1) (not a) true) (level_of b) ≡ middle_of (md k f (d - 1) (not a) true) d b) (not_not a)
+    subst (λ (b : Bool). step_of (mid k f (d - 1) (not a) true) (level_of b) ≡ middle_of (md k f (d - 1) (not a) true) d b) (not-not a)
     (at_middle k f (d - 1) (not a) true (omega arith) (omega arith) ∙ ap (λ (y : ℕ). middle_of (md k f (d - 1) (not a) true) y (not (not a))) n)
 
 -- the frame one middle edge on, at the end of the stretch t

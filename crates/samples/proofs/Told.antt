@@ -10,6 +10,7 @@ use native.Mathlib.Omega.{arith}
 use lib.ListN.{length, replicate, replicate-append-replicate}
 use Rattle.word.proofs.Clash.{clash}
 use Rattle.word.specs.declared.Frame.{Frame}
+use Rattle.refusals.specs.declared.Refusal.{Refusal}
 use Rattle.samples.specs.declared.Phase.{Phase}
 use Rattle.samples.specs.declared.Phase.TheVariants.{Waiting, Start, Bits}
 use Rattle.samples.specs.declared.Answer.{Answer}
@@ -37,7 +38,7 @@ pub record Next (h : List ℕ) (x : ℕ) (y : Step) : Type 0 where
 abbrev frame_given : Answer → Frame
 frame_given answer.Nothing = begun
 frame_given (answer.Frame f) = f
-frame_given (answer.Refused n) = begun
+frame_given (answer.Refused r) = begun
 
 module _ (h : List ℕ) (x : ℕ) (y : Step) where
   pub goes : (p : Phase) → y ≡ goes_on p → Told (h ++ (x ∷ [])) (record { phase = p }) → Next h x y
@@ -46,7 +47,7 @@ module _ (h : List ℕ) (x : ℕ) (y : Step) where
     given = λ g f. clash (cc (ap (λ (q : Step). q.answer) e));
   }
 
-  pub refuses : {n : ℕ} → y ≡ gives (answer.Refused n) → Next h x y
+  pub refuses : {r : Refusal} → y ≡ gives (answer.Refused r) → Next h x y
   refuses e = record {
     on = λ f. clash (cc (ap (λ (q : Step). q.answer) e));
     given = λ g f. clash (cc (ap (λ (q : Step). q.answer) e));

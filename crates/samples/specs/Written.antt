@@ -1,8 +1,9 @@
 -- Writing samples (01, 'Samples'): the 680 of a word, and a lent room before and after.
 -- Assumes nothing: these are definitions.
-use Rattle.std.specs.Prelude.{List, [], ◌∷◌, ◌++◌, cond, ltb, ℕ, zero, suc, ◌-◌, ◌/◌, ◌%◌, ◌^◌, length, drop, replicate}
-use Rattle.samples.specs.declared.Written.{Written}
-use Rattle.samples.specs.declared.Written.TheVariants.{Done, Refused}
+use Rattle.std.specs.Prelude.{List, [], ◌∷◌, ◌++◌, cond, ltb, ℕ, zero, suc, ◌-◌, ◌/◌, ◌%◌, ◌^◌, length, drop, replicate, Result, Ok, Err}
+use Rattle.refusals.specs.declared.Refusal.{Refusal}
+use Rattle.refusals.specs.declared.Refusal.TheVariants.{ShortRoom}
+use Rattle.refusals.specs.Numbers.{number_of}
 
 -- "A bit lasts 20 samples when written. Bit 1 is active then idle, bit 0 idle then active"
 abbrev pub bit_samples : ℕ → List ℕ
@@ -25,16 +26,16 @@ unfoldable pub samples_of : ℕ → List ℕ
 samples_of w = in_samples (frame_bits w)
 
 -- 01's number of each answer; 0 where it has none
-abbrev pub written_number : Written → ℕ
-written_number Done = 0
-written_number (Refused n) = n
+abbrev pub written_number : Result (Unit {0}) Refusal → ℕ
+written_number (Ok _) = 0
+written_number (Err r) = number_of r
 
 -- "15: lent room below 680 (samples)"
-abbrev pub no_room : Written
-no_room = Refused 15
+abbrev pub no_room : Result (Unit {0}) Refusal
+no_room = Err ShortRoom
 
-abbrev pub written_of : List ℕ → Written
-written_of room = cond (ltb (length room) 680) no_room Done
+abbrev pub written_of : List ℕ → Result (Unit {0}) Refusal
+written_of room = cond (ltb (length room) 680) no_room (Ok tt)
 
 -- "'None' means that state and every lent byte stay"; "Bytes of a lent room behind the 680 samples stay."
 abbrev pub room_after : ℕ → List ℕ → List ℕ

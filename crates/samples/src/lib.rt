@@ -1,7 +1,8 @@
-// The words of 01, 'Samples': how far a frame is read, what a sample is answered, and what becomes of a word that is to be written. The
+// The words of 01, 'Samples': how far a frame is read, and what a sample is answered. The
 // rules over them, and what they promise, are in specs/ and proofs/; there is no code here.
 #![tactic(auto)]
 
+use refusals::Refusal;
 use word::Frame;
 
 // Past a middle edge: how many there were, the frame as far as they tell it, how far the last sample is from the last of them, that
@@ -24,15 +25,10 @@ pub enum Phase {
     Bits(Middle),
 }
 
+// In 01's words: a refusal as `Some(Err(..))` of an Option of a Result would be no plainer.
 #[derive(Clone, Copy)]
 pub enum Answer {
     Nothing,
     Frame(Frame),
-    Refused(u8),
-}
-
-#[derive(Clone, Copy)]
-pub enum Written {
-    Done,
-    Refused(u8),
+    Refused(Refusal),
 }

@@ -1,14 +1,14 @@
--- The written samples by their places: bit n of a frame stands at the samples from 20 * n on; and a room that is being filled.
+-- The written samples by their places: bit n of a frame stands at the samples from 20 * n on; and a room that has them.
 -- Assumes nothing.
-use mathlib.Core.Path.{◌≡◌, refl, sym, ap, ◌∙◌}
+use mathlib.Core.Path.{◌≡◌, ap, ◌∙◌}
 use mathlib.Core.List.{List, [], ◌∷◌, ◌++◌}
 use Prim.Native.Nat.{ℕ, zero, suc, ◌+◌, ◌*◌, ◌-◌, ◌/◌, ◌%◌, ◌^◌, ◌≤◌, ◌<◌}
 use native.Mathlib.Omega.{arith}
-use native.Mathlib.Nat.{zero-add}
-use native.Mathlib.Numerals.{add-one}
-use lib.ListN.{length, get_or, set, drop, replicate, get_or-replicate, get_or-append}
-use lib.Seq.{get_or-append-add, take_all, paste, paste-suc}
-use Rattle.samples.specs.Written.{bit_samples, in_samples, bits_of, frame_bits, samples_of}
+use borrow.Author.Tests.{le-ltb}
+use lib.ListN.{length, get_or, drop, replicate, get_or-replicate, get_or-append}
+use lib.Seq.{get_or-append-add}
+use Rattle.std.proofs.lemmas.Grind.{same_number_lists}
+use Rattle.samples.specs.Written.{bit_samples, in_samples, bits_of, frame_bits, samples_of, room_after}
 use Rattle.samples.proofs.Lengths.{length_bits, length_frame, length_samples}
 
 bits_at : (k w j : ℕ) → j < k → get_or (bits_of k w) j 0 ≡ w / 2 ^ (k - suc j) % 2
@@ -21,9 +21,9 @@ pub stop_at : (w n : ℕ) → 32 < n → n < 34 → get_or (frame_bits w) n 0 �
 unfolding bits_of
 stop_at w n g h = let e : n ≡ 33 = omega arith in rw e
 
-pub data_at : (w n : ℕ) → (n ≡ 0 → ⊥) → n < 33 → get_or (frame_bits w) n 0 ≡ w / 2 ^ (32 - n) % 2
-data_at w zero z h = absurd (z refl)
-data_at w (suc j) z h =
+pub data_at : (w n : ℕ) → 1 ≤ n → n < 33 → get_or (frame_bits w) n 0 ≡ w / 2 ^ (32 - n) % 2
+data_at w zero g h = absurd (omega arith)
+data_at w (suc j) g h =
     let l : j < length (bits_of 32 w) = omega (arith, length_bits 32 w) in
     get_or-append (bits_of 32 w) (1 ∷ []) 0 j l ∙ bits_at 32 w j (omega arith)
 
@@ -61,14 +61,9 @@ module _ (w i : ℕ) (h : i < 680) where
   pub sample_high : 10 ≤ i % 20 → get_or (samples_of w) i 0 ≡ 1 - get_or (frame_bits w) (i / 20) 0
   sample_high g = sample_at ∙ high_half (get_or (frame_bits w) (i / 20) 0) (i % 20) g (omega arith)
 
--- a room with the first i samples in front
-module _ (w : ℕ) (d room : List ℕ) (i : ℕ) (e : room ≡ paste d 0 (samples_of w) i) (big : 680 ≤ length d) where
-  pub one_more : (v : ℕ) → v ≡ get_or (samples_of w) i 0 → i < 680 → set room i v ≡ paste d 0 (samples_of w) (i + 1)
-  one_more v f h =
-      let z : 0 + i ≡ i = zero-add i in
-      let p : set (paste d 0 (samples_of w) i) (0 + i) (get_or (samples_of w) i 0) ≡ paste d 0 (samples_of w) (suc i) =
-      paste-suc d 0 (samples_of w) i 0 (omega arith) (omega (arith, length_samples w)) in
-      rw (e, f) (ap (λ (x : ℕ). set (paste d 0 (samples_of w) i) x (get_or (samples_of w) i 0)) (sym z) ∙ p ∙ ap (paste d 0 (samples_of w)) (sym (add-one i)))
-
-  pub all_written : i ≡ 680 → room ≡ samples_of w ++ drop 680 d
-  all_written h = e ∙ ap (paste d 0 (samples_of w)) h ∙ ap (λ (l : List ℕ). l ++ drop 680 d) (take_all 680 (samples_of w) (omega (arith, length_samples w)))
+-- a room that has them in front
+pub filled : (w : ℕ) (room l : List ℕ) → 680 ≤ length room → length l ≡ 680 → ((k : ℕ) → k < 680 → get_or l k 0 ≡ get_or (samples_of w) k 0)
+    → l ++ drop 680 room ≡ room_after w room
+filled w room l h n e =
+    simp (le-ltb (length room) 680 h)
+    (ap (λ (x : List ℕ). x ++ drop 680 room) (same_number_lists l (samples_of w) (omega (arith, length_samples w)) (λ k g. e k (omega arith))))

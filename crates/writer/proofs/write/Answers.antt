@@ -1,16 +1,14 @@
--- Each turn puts one more sample in its place; in the end all 680 stand.
+-- The samples stand in the first 680 bytes of the room, which has as many.
 -- Assumes nothing.
-use Rattle.std.proofs.Common.{◌≤◌, length, arith, le-ltb}
-use Rattle.std.proofs.Math.ListN.{length-set}
-use Rattle.writer.proofs.Places.{one_more, all_written}
+use Rattle.std.proofs.Common.{arith}
+use Rattle.std.proofs.lemmas.List.{length-take-le}
+use Rattle.writer.proofs.Places.{filled}
 use Rattle.writer.proofs.write.Goals as goal
 
-pub loop-i-preserved : goal.loop-i-preserved
-loop-i-preserved c =
-    let h = c.loop-i.invariant in
-    (one_more _ _ _ _ h.0 h.3 _ c.sample_at.ensures (omega arith), omega arith, simp length-set h.2, h.3)
+pub sample_at-requires : goal.sample_at-requires
+sample_at-requires c = omega (arith, length-take-le 680 c.args.room.now c.if-room-lt-FRAME_SAMPLES.false)
 
-pub returns : goal.returns
-returns c =
-    let h : 680 ≤ length c.args.room.now = c.loop-i.invariant.3 in
-    (simp (le-ltb _ 680 h), simp (le-ltb _ 680 h) (all_written _ _ _ c.loop-i.i c.loop-i.invariant.0 h (omega arith)))
+pub returns-clause-bytes : goal.returns-clause-bytes
+returns-clause-bytes c =
+    let h = length-take-le 680 c.args.room.now c.if-room-lt-FRAME_SAMPLES.false in
+    filled _ _ _ c.if-room-lt-FRAME_SAMPLES.false (omega (arith, h)) (λ k g. c.loop-i.invariant k (omega (arith, h)))
