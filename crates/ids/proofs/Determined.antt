@@ -2,12 +2,17 @@
 -- Assumes nothing.
 use mathlib.Core.Path.{sym, ◌∙◌}
 use Rattle.word.proofs.One.{One}
+use Rattle.ids.proofs.KindFromU8.from.Reads as from_reads
+use Rattle.ids.proofs.KindFromU8.from.Kinds as from_kinds
 use Rattle.ids.proofs.kind_of.Reads as kind_of_reads
 use Rattle.ids.proofs.kind_of.Kinds as kind_of_kinds
 use Rattle.ids.proofs.readable.Reads as readable_reads
 use Rattle.ids.proofs.readable.Kinds as readable_kinds
 use Rattle.ids.proofs.writable.Reads as writable_reads
 use Rattle.ids.proofs.writable.Kinds as writable_kinds
+
+pub from_one : One from_kinds.ps from_kinds.r from_reads.Post
+from_one κs a u v x y p q = p ∙ sym q
 
 pub kind_of_one : One kind_of_kinds.ps kind_of_kinds.r kind_of_reads.Post
 kind_of_one κs a u v x y p q = p ∙ sym q

@@ -6,11 +6,12 @@ use mathlib.Core.List.{List, [], ◌∷◌}
 use mathlib.Core.Bool.{Bool, true, false, cond}
 use Prim.Native.Nat.{ℕ, suc, ◌/◌, ◌%◌}
 use lib.Dec.{eqb}
-use Rattle.ids.specs.Ids.{raw, real, s16, u16, pair, spair, rows, rows_in, rows_of, entry_of, kind_of, readable_of, writable_of}
+use Rattle.ids.specs.declared.Kind.{Kind}
+use Rattle.ids.specs.Ids.{number_of, raw, real, s16, u16, pair, spair, rows, rows_in, rows_of, entry_of, kind_of, readable_of, writable_of}
 use Rattle.ids.proofs.Entries.{table}
 
 -- an id's kind, whether it may be read, and whether it may be written
-abbrev Is : ℕ → ℕ → Bool → Bool → Type 0
+abbrev Is : ℕ → Kind → Bool → Bool → Type 0
 Is id k r w = (kind_of id ≡ k) × (readable_of id ≡ r) × (writable_of id ≡ w)
 
 pub record Tried : Type 0 where
@@ -48,8 +49,8 @@ count : (ℕ → ℕ) → ℕ → List ℕ → ℕ
 count f v [] = 0
 count f v (x ∷ l) = let others = count f v l in cond (eqb (f x) v) (suc others) others
 
-kinds : ℕ → ℕ
-kinds v = count (λ (x : ℕ). x % 8) v table
+kinds : Kind → ℕ
+kinds k = count (λ (x : ℕ). x % 8) (number_of k) table
 
 accesses : ℕ → ℕ
 accesses v = count (λ (x : ℕ). x / 8) v table

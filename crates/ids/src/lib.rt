@@ -1,11 +1,56 @@
 // The table of the 256 data ids: each id's kind and whether it may be read or written, from section 5.3 of document 000.
 #![tactic(auto)]
 
-ghost use Rattle.std.specs.Prelude.{◌≡◌};
-ghost use Rattle.ids.specs.Ids.{entry_of, kind_of, readable_of, writable_of};
+ghost use Rattle.std.specs.Prelude.{◌≡◌, ◌<◌, ◌/◌, ◌%◌, ◌==◌};
+ghost use Rattle.ids.specs.Ids.{kind_from, entry_of, kind_of, readable_of, writable_of};
+ghost use Rattle.ids.specs.Names.{name_of};
 
-// A number an id: its kind (1 real, 2 s16, 3 u16, 4 pair, 5 spair), and 8 if it may be read, 16 if it may be written; 0 for an id that is
-// not listed. Behind it stands the id in decimal, and what the document calls it.
+// What an id's 16 bits are. The numbers are those of the table below.
+#[derive(Clone, Copy, PartialEq, Eq)]
+pub enum Kind {
+    Raw = 0,
+    Real = 1,
+    S16 = 2,
+    U16 = 3,
+    Pair = 4,
+    SPair = 5,
+}
+
+impl Kind {
+    // As the listing prints it.
+    pub fn name(self) -> &'static str
+        ensures { result.now ≡ name_of self }
+    {
+        match self {
+            Kind::Raw => "raw",
+            Kind::Real => "real",
+            Kind::S16 => "s16",
+            Kind::U16 => "u16",
+            Kind::Pair => "pair",
+            Kind::SPair => "spair",
+        }
+    }
+}
+
+// The kind that a number stands for; a number that stands for none is raw.
+impl From<u8> for Kind {
+    ghost from_gives = { λ n k. k ≡ kind_from n };
+
+    fn from(n: u8) -> Self {
+        match n {
+            1 => Kind::Real,
+            2 => Kind::S16,
+            3 => Kind::U16,
+            4 => Kind::Pair,
+            5 => Kind::SPair,
+            _ => Kind::Raw,
+        }
+    }
+}
+
+// A number an id: its kind's, and READ if it may be read, WRITTEN if it may be written; 0 for an id that is not listed. Behind it stands the id
+// in decimal, and what the document calls it. It stays packed: 256 numbers that pack kind, readable and writable are the form that 01 names
+// (docs/DECISIONS.md, 'Forms').
 const TABLE: [u8; 256] = [
     12, // 0: Master status, slave status
     17, // 1: Control Setpoint
@@ -265,29 +310,40 @@ const TABLE: [u8; 256] = [
     0, // 255: not listed
 ];
 
+const READ: u8 = 8;
+
+const WRITTEN: u8 = 16;
+
 fn entry(id: u8) -> u8
     ensures { result ≡ entry_of id }
 {
     TABLE[id as usize]
 }
 
+fn has(id: u8, mark: u8) -> bool
+    requires { 0 < mark }
+    ensures { result ≡ (entry_of id / mark % 2 == 1) }
+{
+    entry(id) / mark % 2 == 1
+}
+
 #[tactic(auto, unfolding(crate::specs::Ids::kind_of))]
-pub fn kind_of(id: u8) -> u8
+pub fn kind_of(id: u8) -> Kind
     ensures { result ≡ kind_of id }
 {
-    entry(id) % 8
+    Kind::from(entry(id) % 8)
 }
 
 #[tactic(auto, unfolding(crate::specs::Ids::readable_of))]
 pub fn readable(id: u8) -> bool
     ensures { result ≡ readable_of id }
 {
-    entry(id) / 8 % 2 == 1
+    has(id, READ)
 }
 
 #[tactic(auto, unfolding(crate::specs::Ids::writable_of))]
 pub fn writable(id: u8) -> bool
     ensures { result ≡ writable_of id }
 {
-    entry(id) / 16 % 2 == 1
+    has(id, WRITTEN)
 }

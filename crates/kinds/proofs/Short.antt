@@ -1,11 +1,8 @@
 -- A kind's name is short, so that it fits a line.
 -- Assumes nothing.
-use mathlib.Core.Bool.{Bool, true, false, cond}
-use mathlib.Core.List.{List}
-use Prim.Native.Nat.{ℕ, ◌≤◌}
-use native.Mathlib.Omega.{arith}
-use lib.Dec.{eqb}
-use lib.ListN.{length}
+use Rattle.std.proofs.Common.{ℕ, ◌≤◌, Bool, true, false, cond, List, length, lit≤}
+use Rattle.ids.specs.declared.Kind.{Kind}
+use Rattle.ids.specs.declared.Kind.TheVariants.{Raw, Real, S16, U16, Pair, SPair}
 use Rattle.kinds.specs.Names.{name_of}
 
 -- both cases of a choice are short
@@ -13,11 +10,10 @@ pub either : (b : Bool) (x y : List ℕ) (n : ℕ) → length x ≤ n → length
 either true x y n p q = p
 either false x y n p q = q
 
-pub name_short : (k : ℕ) → length (name_of k) ≤ 5
-unfolding name_of
-name_short k =
-    either (eqb k 1) _ _ 5 (omega arith)
-    (either (eqb k 2) _ _ 5 (omega arith)
-    (either (eqb k 3) _ _ 5 (omega arith)
-    (either (eqb k 4) _ _ 5 (omega arith)
-    (either (eqb k 5) _ _ 5 (omega arith) (omega arith)))))
+pub name_short : (k : Kind) → length (name_of k) ≤ 5
+name_short Raw = lit≤ tt
+name_short Real = lit≤ tt
+name_short S16 = lit≤ tt
+name_short U16 = lit≤ tt
+name_short Pair = lit≤ tt
+name_short SPair = lit≤ tt

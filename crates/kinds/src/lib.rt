@@ -3,20 +3,22 @@
 
 ghost use Rattle.std.specs.Prelude.{◌≡◌};
 ghost use Rattle.text.specs.Text.{puts};
-ghost use Rattle.kinds.specs.Names.{name_of};
+ghost use Rattle.kinds.specs.Names.{name_of, name_by};
 
+use ids::Kind;
 use text::Text;
 
-#[tactic(auto, unfolding(crate::specs::Names::name_of))]
-pub fn name(t: Text, kind: u8) -> Text
+// A kind's name behind a text.
+pub fn named(t: Text, kind: Kind) -> Text
     ensures { result ≡ puts t (name_of kind) }
 {
-    match kind {
-        1 => t.put(b"real"),
-        2 => t.put(b"s16"),
-        3 => t.put(b"u16"),
-        4 => t.put(b"pair"),
-        5 => t.put(b"spair"),
-        _ => t.put(b"raw"),
-    }
+    t.put(kind.name().as_bytes())
+}
+
+// The name of the kind with this number, which is raw for every other number. It takes each, as ever: a Kind would ask more of who has a number.
+#[tactic(auto, using(crate::proofs::Numbered::by_number))]
+pub fn name(t: Text, kind: u8) -> Text
+    ensures { result ≡ puts t (name_by kind) }
+{
+    named(t, Kind::from(kind))
 }

@@ -4,7 +4,8 @@ use Prim.Native.Nat.{ℕ, ◌+◌, ◌*◌, zero-le}
 use mathlib.Core.Path.{◌≡◌, refl, sym, ap, ap₂, ◌∙◌, subst}
 use mathlib.Core.Bool.{Bool, true, false, cond, ◌&&◌, and-eq-true_iff}
 use mathlib.Core.List.{List, [], ◌∷◌, ◌++◌}
-use mathlib.Core.Option.{Option, none, some, none-ne-some, some-injective}
+use Rattle.std.specs.Prelude.{Option, None, Some, unwrap_or, is_none}
+use Rattle.std.proofs.Common.{T}
 use native.Mathlib.Omega.{arith}
 use borrow.Author.Tests.{eqb-true, eq-eqb}
 use lib.ListN.{length, get_or, drop, length-append, length-drop, take-append-drop}
@@ -23,15 +24,15 @@ record Passes (s : List ℕ) : Type 0 where
   rises : rising 0 (lines_of s) ≡ true
   ordered : in_order (lines_of s) 0 (readings_of s) ≡ true
 
-passes : (s : List ℕ) → Passes s → log_of s ≡ some (readings_of s)
+passes : (s : List ℕ) → Passes s → log_of s ≡ Some (readings_of s)
 unfolding log_of
 passes s p = rw (eq-eqb (length s) (all_bytes s) p.whole, p.rises, p.ordered)
 
-taken : {A : Type 0} (b : Bool) (x y : A) → cond b (some x) none ≡ some y → (b ≡ true) × (x ≡ y)
-taken true x y e = (refl, some-injective x y e)
-taken false x y e = absurd (none-ne-some y e)
+taken : {A : Type 0} (b : Bool) (x y : A) → cond b (Some x) None ≡ Some y → (b ≡ true) × (x ≡ y)
+taken {A} true x y e = (refl, ap (λ (o : Option A). unwrap_or o x) e)
+taken {A} false x y e = absurd (subst (λ (o : Option A). T (is_none o)) e tt)
 
-passed : (s : List ℕ) (rs : List Reading) → log_of s ≡ some rs → Passes s × (readings_of s ≡ rs)
+passed : (s : List ℕ) (rs : List Reading) → log_of s ≡ Some rs → Passes s × (readings_of s ≡ rs)
 unfolding log_of
 passed s rs e =
     let rise = rising 0 (lines_of s) in
@@ -75,7 +76,7 @@ module _ (lines : List ℕ) (rs : List Reading) where
   length_back = omega (arith, length-append lines (pair (length rs) (bytes_of rs)), length_bytes rs, count_back)
 
 -- what is written is read
-pub good : {s : List ℕ} {rs : List Reading} → Log s rs → log_of s ≡ some rs
+pub good : {s : List ℕ} {rs : List Reading} → Log s rs → log_of s ≡ Some rs
 good {s} {rs} g =
     let lines = g.lines in
     let p : Passes (log_bytes lines rs) = record {
@@ -83,7 +84,7 @@ good {s} {rs} g =
       rises = rw (lines_back lines rs) (rises 0 lines g.numbers g.above);
       ordered = rw (lines_back lines rs, all_back lines rs) (ordered lines 0 rs (λ i h. zero-le) g.ticks g.listed);
     } in
-    ap log_of g.written ∙ passes (log_bytes lines rs) p ∙ ap {B = Option (List Reading)} some (all_back lines rs)
+    ap log_of g.written ∙ passes (log_bytes lines rs) p ∙ ap {B = Option (List Reading)} Some (all_back lines rs)
 
 -- bytes that pass are those of what is read in them
 module _ (s : List ℕ) (b : Bytes s) (p : Passes s) where
@@ -120,5 +121,5 @@ module _ (s : List ℕ) (b : Bytes s) (p : Passes s) where
   }
 
 -- what is read was written so
-pub read : (s : List ℕ) (rs : List Reading) → Bytes s → log_of s ≡ some rs → Log s rs
+pub read : (s : List ℕ) (rs : List Reading) → Bytes s → log_of s ≡ Some rs → Log s rs
 read s rs b e = let t = passed s rs e in subst (λ (l : List Reading). Log s l) t.1 (log s b t.0)

@@ -1,8 +1,7 @@
 -- A log (02, 'How long has it stood still?'), from its bytes to its readings, in the order of the sentence. Bytes past the end count as 0, and
 -- the length is held to the two counts, so no reading is made of such.
 -- Assumes nothing: these are definitions.
-use Rattle.std.specs.Prelude.{ℕ, zero, suc, ◌+◌, ◌*◌, Bool, true, false, cond, ◌&&◌, ◌||◌, List, [], ◌∷◌, leb, ltb, eqb, length, get_or, take, drop}
-use Rattle.std.proofs.Math.Option.{Option, none, some}
+use Rattle.std.specs.Prelude.{ℕ, zero, suc, ◌+◌, ◌*◌, Bool, true, false, cond, ◌&&◌, ◌||◌, Option, Some, None, List, [], ◌∷◌, leb, ltb, eqb, length, get_or, take, drop}
 use Rattle.places.specs.Bytes.{pair_at, word_at}
 
 -- "readings of 8 bytes: tick (4), line, id, value (2), high bytes first"
@@ -61,4 +60,4 @@ in_order lines last (r ∷ rs) = leb last r.tick && (among lines r.line && in_or
 
 -- the readings of a log, or none of what breaks the layout
 unfoldable pub log_of : List ℕ → Option (List Reading)
-log_of s = cond (whole s && (rising 0 (lines_of s) && in_order (lines_of s) 0 (readings_of s))) (some (readings_of s)) none
+log_of s = cond (whole s && (rising 0 (lines_of s) && in_order (lines_of s) 0 (readings_of s))) (Some (readings_of s)) None

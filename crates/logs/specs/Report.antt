@@ -1,14 +1,15 @@
 -- The report on one line and id (02, 'How long has it stood still?'), over the readings of a log.
 -- Assumes nothing: these are definitions.
-use Rattle.std.specs.Prelude.{ℕ, ◌+◌, ◌-◌, Bool, cond, ◌&&◌, ◌||◌, List, [], ◌∷◌, map, leb, ltb, eqb, ℤ, pos, ◌+ℤ◌, length}
-use Rattle.std.proofs.Math.Option.{Option, none, some}
+use Rattle.std.specs.Prelude.{ℕ, ◌+◌, ◌-◌, Bool, true, false, cond, ◌&&◌, Option, Some, None, Result, Ok, Err, List, [], ◌∷◌, map, leb, ltb, eqb, ℤ, pos, ◌+ℤ◌, length}
 use Rattle.std.specs.Int.Signed.{le_z}
-use Rattle.ids.specs.Ids.{real, s16, kind_of}
+use Rattle.ids.specs.declared.Kind.{Kind}
+use Rattle.ids.specs.declared.Kind.TheVariants.{Real, S16, U16, Pair, SPair, Raw}
+use Rattle.ids.specs.Ids.{kind_of}
 use Rattle.ids.specs.Signed.{signed16}
 use Rattle.logs.specs.Layout.{Reading, log_of}
 use Rattle.logs.specs.declared.Report.{Report}
-use Rattle.logs.specs.declared.Answer.{Answer}
-use Rattle.logs.specs.declared.Answer.TheVariants.{Reported, Refused}
+use Rattle.refusals.specs.declared.Refusal.{Refusal}
+use Rattle.refusals.specs.declared.Refusal.TheVariants.{NoSuchLine, BrokenLog}
 
 -- the readings of one line and id, in their order; what stands between them is left out
 unfoldable pub only : ℕ → ℕ → List Reading → List Reading
@@ -16,8 +17,16 @@ only line id [] = []
 only line id (r ∷ rs) = cond (eqb r.line line && eqb r.id id) (r ∷ only line id rs) (only line id rs)
 
 -- "Values count as signed for the real and s16 kinds, otherwise unsigned."
+abbrev pub signed_kind : Kind → Bool
+signed_kind Real = true
+signed_kind S16 = true
+signed_kind U16 = false
+signed_kind Pair = false
+signed_kind SPair = false
+signed_kind Raw = false
+
 unfoldable pub counts_signed : ℕ → Bool
-counts_signed id = eqb (kind_of id) real || eqb (kind_of id) s16
+counts_signed id = signed_kind (kind_of id)
 
 abbrev pub value_as : Bool → ℕ → ℤ
 value_as signed raw = cond signed (signed16 raw) (pos raw)
@@ -91,9 +100,9 @@ report_of id rs = record {
 }
 
 -- "Refusals: 19, a log that breaks this layout or has bytes over, after .. 9"
-abbrev pub answer_by : ℕ → ℕ → Option (List Reading) → Answer
-answer_by line id none = Refused 19
-answer_by line id (some rs) = Reported (report_of id (only line id rs))
+abbrev pub answer_by : ℕ → ℕ → Option (List Reading) → Result Report Refusal
+answer_by line id None = Err BrokenLog
+answer_by line id (Some rs) = Ok (report_of id (only line id rs))
 
-unfoldable pub answer_of : List ℕ → ℕ → ℕ → Answer
-answer_of s line id = cond (leb 1 line && leb line 4) (answer_by line id (log_of s)) (Refused 9)
+unfoldable pub answer_of : List ℕ → ℕ → ℕ → Result Report Refusal
+answer_of s line id = cond (leb 1 line && leb line 4) (answer_by line id (log_of s)) (Err NoSuchLine)

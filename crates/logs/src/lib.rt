@@ -1,5 +1,6 @@
-// The words of a log: what is reported of one line and id, and what a log is answered. The rules over them, and what they promise, are in
-// specs/ and proofs/; there is no code here.
+// The words of a log: what is reported of one line and id, where a log is not refused. The rules over them, and what they promise, are in specs/
+// and proofs/; there is no code here.
+#![tactic(auto)]
 
 // Of the readings of one line and id: how many there are, the lowest value, the highest, their sum, and the run of equal neighbours with the
 // most readings: how many it has, and the ticks from its first to its last.
@@ -11,10 +12,4 @@ pub struct Report {
     pub sum: i64,
     pub run: u64,
     pub ticks: u64,
-}
-
-#[derive(Drop)]
-pub enum Answer {
-    Reported(Report),
-    Refused(u8),
 }

@@ -1,6 +1,5 @@
 -- Laws of the data values, for the proofs here and in the crates above.
 pub mod Exact
-pub mod Sign
 pub mod Floats
 pub mod Trip
 pub mod Refusals

@@ -2,11 +2,13 @@
 #![tactic(auto)]
 
 mod real;
-mod signed;
 
 ghost use Rattle.std.specs.Prelude.{◌≡◌};
 ghost use Rattle.ids.specs.Ids.{kind_of};
 ghost use Rattle.values.specs.Typed.{read_as, BitsOf};
+
+use ids::Kind;
+use refusals::Refusal;
 
 // A typed value. A pair has its high byte first.
 #[derive(Clone, Copy)]
@@ -19,27 +21,18 @@ pub enum Typed {
     Raw(u16),
 }
 
-// The 16 bits of a typed value, or the number of the refusal.
-#[derive(Clone, Copy)]
-pub enum Back {
-    Bits(u16),
-    Refused(u8),
-}
-
 #[tactic(auto, unfolding(crate::specs::Typed::read_as))]
-fn read_as(kind: u8, raw: u16) -> Typed
+fn read_as(kind: Kind, raw: u16) -> Typed
     ensures { result ≡ read_as kind raw }
 {
+    let [high, low] = raw.to_be_bytes();
     match kind {
-        1 => Typed::Real(real::real_of(raw)),
-        2 => Typed::S16(signed::signed16(raw)),
-        3 => Typed::U16(raw),
-        4 => Typed::Pair((raw / 256) as u8, (raw % 256) as u8),
-        5 => Typed::SPair(
-            signed::signed8((raw / 256) as u8),
-            signed::signed8((raw % 256) as u8),
-        ),
-        _ => Typed::Raw(raw),
+        Kind::Real => Typed::Real(real::real_of(raw)),
+        Kind::S16 => Typed::S16(raw.cast_signed()),
+        Kind::U16 => Typed::U16(raw),
+        Kind::Pair => Typed::Pair(high, low),
+        Kind::SPair => Typed::SPair(high.cast_signed(), low.cast_signed()),
+        Kind::Raw => Typed::Raw(raw),
     }
 }
 
@@ -50,18 +43,15 @@ pub fn typed_of(id: u8, raw: u16) -> Typed
     read_as(ids::kind_of(id), raw)
 }
 
-// A typed value's 16 bits; a real that no raw number gives is refusal 10.
-pub fn bits(t: Typed) -> Back
+// A typed value's 16 bits; a real that no raw number gives is refused.
+pub fn bits(t: Typed) -> Result<u16, Refusal>
     ensures { BitsOf t result }
 {
     match t {
         Typed::Real(x) => real::real_back(x),
-        Typed::S16(z) => Back::Bits(signed::bits16(z)),
-        Typed::U16(n) => Back::Bits(n),
-        Typed::Pair(h, l) => Back::Bits((h as u16) * 256 + (l as u16)),
-        Typed::SPair(h, l) => {
-            Back::Bits((signed::bits8(h) as u16) * 256 + (signed::bits8(l) as u16))
-        }
-        Typed::Raw(n) => Back::Bits(n),
+        Typed::S16(z) => Ok(z.cast_unsigned()),
+        Typed::U16(n) | Typed::Raw(n) => Ok(n),
+        Typed::Pair(h, l) => Ok(u16::from_be_bytes([h, l])),
+        Typed::SPair(h, l) => Ok(u16::from_be_bytes([h.cast_unsigned(), l.cast_unsigned()])),
     }
 }

@@ -1,21 +1,16 @@
 -- `values::real::guess` meets its contract.
 -- Assumes nothing.
-use Rattle.std.proofs.Common.{◌-◌, true, false, pos, ap, ◌∙◌, ⊎_elim, arith}
-use lib.Ieee.{Float, fin, binary32, mul, of_bits, neg}
-use Rattle.values.proofs.Exact.{lt_or_ge}
-use Rattle.values.proofs.Floats.{pos_test, neg_test, pos_times, neg_times}
+use Rattle.std.proofs.Common.{◌≡◌, ℕ, false, ap, ◌∙◌, to_z, of_z, w16}
+use lib.Ieee.{Float, binary32, fin, mul, of_bits, to_signed}
+use lib.IntN.{pos}
+use Rattle.values.proofs.Exact.{bits_back}
+use Rattle.values.proofs.Floats.{times_back}
 use Rattle.values.proofs.real.guess.Goals as goal
 
-pub returns-then-x : goal.returns-then-x
-unfolding of_bits neg
-returns-then-x c raw h e = ⊎_elim
-    (λ p. cc (pos_test raw p))
-    (λ p. omega (arith, c.whole-n.ensures (0x1_0000 - raw) (omega arith) (ap (λ (y : Float). mul binary32 y (fin true 1 (pos 8))) e ∙ neg_times raw p h)))
-    (lt_or_ge raw 0x8000)
-
-pub returns-else-x : goal.returns-else-x
+pub returns : goal.returns
 unfolding of_bits
-returns-else-x c raw h e = ⊎_elim
-    (λ p. omega (arith, c.whole.ensures raw (omega arith) (ap (λ (y : Float). mul binary32 y (fin false 1 (pos 8))) e ∙ pos_times raw p)))
-    (λ p. cc (neg_test raw p h))
-    (lt_or_ge raw 0x8000)
+returns c raw h e =
+    let z = c.saturating_f32_to_i16.result in
+    let is : z ≡ to_z w16 raw = c.saturating_f32_to_i16.ensures ∙ ap (λ (x : Float). to_signed 15 (mul binary32 x (fin false 1 (pos 8)))) e ∙ times_back raw h in
+    let back = bits_back raw h in
+    c.cast_unsigned.ensures ∙ ap (λ (n : ℕ). of_z w16 (to_z w16 n)) (ap (of_z w16) is ∙ back) ∙ back

@@ -1,19 +1,15 @@
--- `values::real::real_of` meets its contract: each arm's quotient is the nearest float of the number over 256, with its sign.
+-- `values::real::real_of` meets its contract: the quotient is the nearest float of the signed raw number over 256.
 -- Assumes nothing.
-use Rattle.std.proofs.Common.{◌≡◌, ℕ, ◌+◌, ◌-◌, true, false, sym, ap, ◌∙◌, arith}
-use lib.Ieee.{binary32, round, of_bits, neg}
-use Rattle.values.proofs.Exact.{over_256, real_pos, real_neg}
+use Rattle.std.proofs.Common.{◌≡◌, ◌<◌, false, ap, ◌∙◌, arith, to_z, of_z, w16}
+use lib.Ieee.{Float, binary32, fin, div, of_int, of_bits}
+use lib.IntN.{pos}
+use Rattle.values.proofs.Exact.{bits_back, quotient}
 use Rattle.values.proofs.real.real_of.Goals as goal
 
-pub returns-then-raw-lt32768 : goal.returns-then-raw-lt32768
+pub returns : goal.returns
 unfolding of_bits
-returns-then-raw-lt32768 c = over_256 false c.args.raw (omega arith) ∙ sym (real_pos c.args.raw (omega arith))
-
-pub returns-else-raw-lt32768 : goal.returns-else-raw-lt32768
-unfolding of_bits neg
-returns-else-raw-lt32768 c =
+returns c =
     let raw = c.args.raw in
-    let e : 0xffff - raw + 1 ≡ 0x1_0000 - raw = omega arith in
-    over_256 true (0xffff - raw + 1) (omega arith)
-    ∙ ap (λ (n : ℕ). round binary32 true n 256) e
-    ∙ sym (real_neg raw (omega arith) (omega arith))
+    let h : raw < 0x1_0000 = omega arith in
+    let back : to_z w16 (of_z w16 c.cast_signed.result) ≡ to_z w16 raw = ap (to_z w16) (ap (of_z w16) c.cast_signed.ensures ∙ bits_back raw h) in
+    ap (λ (x : Float). div binary32 x (fin false 1 (pos 8))) (c.from.ensures ∙ ap (of_int binary32) back) ∙ quotient raw h
