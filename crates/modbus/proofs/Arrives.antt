@@ -9,6 +9,7 @@ use native.Mathlib.Omega.{arith}
 use borrow.Author.Tests.{leb-true, leb-false, eqb-true, eqb-false}
 use lib.ListN.{length, get_or, drop, length-drop}
 use lib.Seq.{length-take-le}
+use Rattle.refusals.specs.declared.Refusal.{Refusal}
 use Rattle.word.specs.Checks.{Fails, here, later, Passes, all}
 use Rattle.word.proofs.Checks.{either}
 use Rattle.word.proofs.Clash.{clash}
@@ -108,14 +109,14 @@ module _ (s : List ℕ) (h : Bytes s) where
   as_read : {f : MessageForm} {v : Verdict} → Arrives s f v → Arrives s f (reading_verdict (reads (wrapping_of f) s))
   as_read {f} a = subst (Arrives s f) (sym (only s h a)) a
 
-  serial_arrives : ((n : ℕ) × Fails (serial_checks s) n) ⊎ Passes (serial_checks s) → Arrives s Serial (reading_verdict (reads serial s))
-  serial_arrives (inl (n, here e)) = as_read (serial_short (leb-false 4 (length s) e))
-  serial_arrives (inl (n, later e (here f))) = as_read (serial_long (leb-false (length s) 256 f))
-  serial_arrives (inl (n, later e (later f (here g)))) =
+  serial_arrives : ((r : Refusal) × Fails (serial_checks s) r) ⊎ Passes (serial_checks s) → Arrives s Serial (reading_verdict (reads serial s))
+  serial_arrives (inl (r, here e)) = as_read (serial_short (leb-false 4 (length s) e))
+  serial_arrives (inl (r, later e (here f))) = as_read (serial_long (leb-false (length s) 256 f))
+  serial_arrives (inl (r, later e (later f (here g)))) =
       as_read
       (serial_broken (leb-true 4 (length s) e) (leb-true (length s) 256 f)
       (λ b is. let passes = ap passes_of is ∙ sealed_passes b in clash cc))
-  serial_arrives (inl (n, later e (later f (later g x)))) = elim x [ ]
+  serial_arrives (inl (r, later e (later f (later g x)))) = elim x [ ]
   serial_arrives (inr (all e (all f (all g p)))) =
       let from = leb-true 4 (length s) e in
       let upto = leb-true (length s) 256 f in
@@ -123,17 +124,17 @@ module _ (s : List ℕ) (h : Bytes s) where
       as_read
       (serial_body (unsealed s) (omega arith) (omega arith) (sym (passes_sealed s g)) (body.becomes (unsealed s) (serial_lawful.bytes s h)))
 
-  tcp_arrives : ((n : ℕ) × Fails (tcp_checks s) n) ⊎ Passes (tcp_checks s) → Arrives s Tcp (reading_verdict (reads tcp s))
-  tcp_arrives (inl (n, here e)) = as_read (tcp_short (leb-false 8 (length s) e))
-  tcp_arrives (inl (n, later e (here f))) = as_read (tcp_long (leb-false (length s) 260 f))
-  tcp_arrives (inl (n, later e (later f (here g)))) =
+  tcp_arrives : ((r : Refusal) × Fails (tcp_checks s) r) ⊎ Passes (tcp_checks s) → Arrives s Tcp (reading_verdict (reads tcp s))
+  tcp_arrives (inl (r, here e)) = as_read (tcp_short (leb-false 8 (length s) e))
+  tcp_arrives (inl (r, later e (here f))) = as_read (tcp_long (leb-false (length s) 260 f))
+  tcp_arrives (inl (r, later e (later f (here g)))) =
       as_read
       (tcp_protocol (leb-true 8 (length s) e) (leb-true (length s) 260 f) (λ p q. eqb-false (pair_at s 2) 0 g (protocol_yes s h p q)))
-  tcp_arrives (inl (n, later e (later f (later g (here i))))) =
+  tcp_arrives (inl (r, later e (later f (later g (here i))))) =
       let from = leb-true 8 (length s) e in
       let fields = protocol_is s h (eqb-true (pair_at s 2) 0 g) in
       as_read (tcp_length from (leb-true (length s) 260 f) fields.0 fields.1 (λ is. eqb-false (pair_at s 4) (length s - 6) i (length_is s h from is)))
-  tcp_arrives (inl (n, later e (later f (later g (later i x))))) = elim x [ ]
+  tcp_arrives (inl (r, later e (later f (later g (later i x))))) = elim x [ ]
   tcp_arrives (inr (all e (all f p))) =
       let from = leb-true 8 (length s) e in
       let upto = leb-true (length s) 260 f in

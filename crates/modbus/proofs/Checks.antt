@@ -1,6 +1,10 @@
 -- The order of checks, for every message in either form, in 01's words and 02's (Ask 4): where a check fails and those before it hold, its answer is given,
 -- whatever fails after it. And a small room is refused and stays.
 -- Assumes nothing.
+use Rattle.std.specs.Prelude.{Ok, Err}
+use Rattle.refusals.specs.declared.Refusal.{Refusal}
+use Rattle.refusals.specs.declared.Refusal.TheVariants.{ShortRoom}
+use Rattle.refusals.specs.Numbers.{number_of}
 use mathlib.Core.Path.{◌≡◌, refl, ap, ◌∙◌}
 use mathlib.Core.Logic.{◌⊎◌, inl, inr}
 use mathlib.Core.Bool.{Bool, true, false, cond, not, ◌&&◌}
@@ -18,7 +22,6 @@ use Rattle.modbus.specs.declared.Reading.{Reading}
 use Rattle.modbus.specs.declared.Reading.TheVariants.{Silent, AtOnce}
 use Rattle.modbus.specs.declared.Reply.{Reply}
 use Rattle.modbus.specs.declared.Reply.TheVariants.{Value}
-use Rattle.modbus.specs.declared.Written.TheVariants.{Count, Refused}
 use Rattle.modbus.specs.declared.shape.Fields.{Fields}
 use Rattle.modbus.specs.Shape.{unit_of, function_of, request_fields}
 use Rattle.modbus.specs.Mapping.{
@@ -45,15 +48,15 @@ use Rattle.modbus.proofs.Served.{serves, unserved}
 use Rattle.modbus.proofs.Formed.{RightForm, formed, unformed}
 
 -- a check of the list fails and none before it: silence, or an exception, with its number
-silence : (cs : List Check) (next : Reading) {n : ℕ} → Fails cs n → reading_verdict (judged cs Silent next) ≡ refused n
+silence : (cs : List (Check Refusal)) (next : Reading) {r : Refusal} → Fails cs r → reading_verdict (judged cs Silent next) ≡ refused (number_of r)
 silence cs next f = ap reading_verdict (refuses Silent next f)
 
-excepted : (u f : ℕ) (cs : List Check) (next : Reading) {n : ℕ} → Fails cs n → reading_verdict (judged cs (at_once u f) next) ≡ exception u f n
+excepted : (u f : ℕ) (cs : List (Check ℕ)) (next : Reading) {n : ℕ} → Fails cs n → reading_verdict (judged cs (at_once u f) next) ≡ exception u f n
 excepted u f cs next fails = ap reading_verdict (refuses (at_once u f) next fails)
 
 -- "length 4 to 256; checksum"
 module _ (s : List ℕ) where
-  refuses_with : (W : Wrapping) {n : ℕ} → Fails (W.checks s) n → reading_verdict (reads W s) ≡ refused n
+  refuses_with : (W : Wrapping) {r : Refusal} → Fails (W.checks s) r → reading_verdict (reads W s) ≡ refused (number_of r)
   unfolding reads
   refuses_with W f = silence (W.checks s) (body_read (W.body s)) f
 
@@ -183,10 +186,10 @@ module _ (W : Wrapping) (t : ℕ) (r : Reply) (room : List ℕ) where
   pub fifteen : length room < 16 → (written_verdict (reply_written W t r room) ≡ refused 15) × (reply_room W t r room ≡ room)
   unfolding reply_written reply_room
   fifteen low =
-      let small : Fails (room_checks room) 15 = here (lt-leb 16 (length room) low) in
-      (ap written_verdict (refuses Refused (Count (length (writes W t r))) small), refuses (λ n. room) (placed (writes W t r) room) small)
+      let small : Fails (room_checks room) ShortRoom = here (lt-leb 16 (length room) low) in
+      (ap written_verdict (refuses Err (Ok (length (writes W t r))) small), refuses (λ refusal. room) (placed (writes W t r) room) small)
 
   -- and 16 bytes are enough
   pub sixteen : 16 ≤ length room → written_verdict (reply_written W t r room) ≡ bytes (length (writes W t r))
   unfolding reply_written
-  sixteen h = ap written_verdict (goes_on Refused (Count (length (writes W t r))) (all (le-leb _ (length room) (omega (arith, h))) none))
+  sixteen h = ap written_verdict (goes_on Err (Ok (length (writes W t r))) (all (le-leb _ (length room) (omega (arith, h))) none))

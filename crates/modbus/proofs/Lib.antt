@@ -1,6 +1,5 @@
 -- Laws of requests and replies, for the crates above.
 pub mod Place
-pub mod Lookup
 pub mod Questions
 pub mod Served
 pub mod Formed

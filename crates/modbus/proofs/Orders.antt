@@ -1,5 +1,6 @@
 -- What is known of an order, whatever list was read as one (of bytes or not): it is for a line 1 to 4, that of its unit. Unit 5 never makes one.
 -- Assumes nothing.
+use Rattle.std.specs.Prelude.{Option, Some, None}
 use mathlib.Core.Path.{◌≡◌, refl, sym, ◌∙◌}
 use mathlib.Core.Logic.{◌⊎◌, inl, inr}
 use mathlib.Core.Bool.{Bool, true, false, cond}
@@ -8,18 +9,16 @@ use Prim.Native.Nat.{ℕ, ◌≤◌}
 use native.Mathlib.Omega.{arith}
 use borrow.Author.Tests.{leb-true, eqb-false}
 use lib.Dec.{eqb}
+use Rattle.refusals.specs.declared.Refusal.{Refusal}
 use Rattle.word.specs.Checks.{Check, judged, Fails, Passes, all}
 use Rattle.word.proofs.Checks.{refuses, goes_on, either}
 use Rattle.word.proofs.Clash.{clash}
 use Rattle.modbus.specs.declared.Order.{Order}
+use Rattle.modbus.specs.declared.QuestionType.{QuestionType}
 use Rattle.modbus.specs.declared.Reading.TheVariants.{Silent, AtOnce, Accepted}
 use Rattle.modbus.specs.declared.Reply.{Reply}
 use Rattle.modbus.specs.declared.Reply.TheVariants.{Exception, Value}
-use Rattle.modbus.specs.declared.rows.Found.{Found}
-use Rattle.modbus.specs.declared.rows.Found.TheVariants.{First, Nothing}
 use Rattle.modbus.specs.declared.rows.Row.{Row}
-use Rattle.modbus.specs.declared.rows.Naming.{Naming}
-use Rattle.modbus.specs.declared.rows.Naming.TheVariants.{Known, Unnamed}
 use Rattle.modbus.specs.declared.shape.Fields.{Fields}
 use Rattle.modbus.specs.Shape.{unit_of, function_of, request_fields}
 use Rattle.modbus.specs.Mapping.{
@@ -43,16 +42,16 @@ use Rattle.modbus.specs.Mapping.{
 use Rattle.modbus.specs.Wrapping.{Wrapping, reads}
 
 -- where every refusal is another answer, each check has passed
-pub passed : {A : Type 0} (cs : List Check) (refusal : ℕ → A) (next r : A) → ((n : ℕ) → refusal n ≡ r → ⊥) → judged cs refusal next ≡ r
+pub passed : {N A : Type 0} (cs : List (Check N)) (refusal : N → A) (next r : A) → ((n : N) → refusal n ≡ r → ⊥) → judged cs refusal next ≡ r
     → Passes cs × (next ≡ r)
-passed cs refusal next r other e = go (either cs)
+passed {N = N} cs refusal next r other e = go (either cs)
   where
-    go : ((n : ℕ) × Fails cs n) ⊎ Passes cs → Passes cs × (next ≡ r)
+    go : ((n : N) × Fails cs n) ⊎ Passes cs → Passes cs × (next ≡ r)
     go (inl f) = absurd (other f.0 (sym (refuses refusal next f.1) ∙ e))
     go (inr p) = (p, sym (goes_on refusal next p) ∙ e)
 
-silent_never : (o : Order) (n : ℕ) → Silent n ≡ Accepted o → ⊥
-silent_never o n e = clash cc
+silent_never : (o : Order) (r : Refusal) → Silent r ≡ Accepted o → ⊥
+silent_never o r e = clash cc
 
 at_once_never : (r : Reply) (o : Order) → AtOnce r ≡ Accepted o → ⊥
 at_once_never r o e = clash cc
@@ -68,14 +67,14 @@ own_never a o e =
     at_once_never (Value 5 a.function 0x0100) o p.1
 
 -- the order is for the line of the request's unit
-typed_on : (u : ℕ) (a : Fields) (r : Row) (t : Naming) (o : Order) → typed_as u a r t ≡ Accepted o → o.line ≡ u
-typed_on u a r (Known t) o e = cc
-typed_on u a r Unnamed o e = absurd (at_once_never (Exception u a.function 0x03) o e)
+typed_on : (u : ℕ) (a : Fields) (r : Row) (t : Option QuestionType) (o : Order) → typed_as u a r t ≡ Accepted o → o.line ≡ u
+typed_on u a r (Some t) o e = cc
+typed_on u a r None o e = absurd (at_once_never (Exception u a.function 0x03) o e)
 
-found_on : (u : ℕ) (a : Fields) (f : Found) (o : Order) → found_as u a f ≡ Accepted o → o.line ≡ u
+found_on : (u : ℕ) (a : Fields) (f : Option Row) (o : Order) → found_as u a f ≡ Accepted o → o.line ≡ u
 unfolding ask_of
-found_on u a (First r) o e = typed_on u a r (type_from r.4 a.message) o e
-found_on u a Nothing o e = absurd (at_once_never (Exception u a.function 0x02) o e)
+found_on u a (Some r) o e = typed_on u a r (type_from r.asks a.message) o e
+found_on u a None o e = absurd (at_once_never (Exception u a.function 0x02) o e)
 
 mapped_on : (u : ℕ) (a : Fields) (o : Order) → mapped_of u a ≡ Accepted o → o.line ≡ u
 unfolding mapped_of

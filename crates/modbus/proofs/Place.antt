@@ -1,53 +1,35 @@
--- Bytes in front of a room: what stands there, and the checksum behind them.
+-- Bytes in front of a room: what is placed behind them, or before them, and what stays behind all.
 -- Assumes nothing.
 use mathlib.Core.Path.{◌≡◌, refl, sym, ap, ap₂, ◌∙◌}
-use mathlib.Core.List.{List, [], ◌∷◌, ◌++◌, append_assoc, append-nil}
-use Prim.Native.Nat.{ℕ, ◌+◌, ◌-◌, ◌/◌, ◌%◌, ◌≤◌}
-use native.Mathlib.Omega.{arith}
-use native.Mathlib.Numerals.{add-one}
-use native.Mathlib.Nat.{zero-add, le_of_eq}
-use lib.ListN.{length, take, drop, set, length-append, length-drop, drop_of_length-le}
-use lib.Seq.{sets, sets-eq, take_all, take_at, drop_at, drop-append-add, drop-drop, length-take-le}
+use mathlib.Core.List.{List, [], ◌++◌, append_assoc, append-nil}
+use Prim.Native.Nat.{ℕ, ◌+◌, ◌-◌, ◌≤◌}
+use native.Mathlib.Nat.{le_of_eq}
+use lib.ListN.{length, take, drop, length-append, length-drop, drop_of_length-le}
+use lib.Seq.{take_all, take_at, drop_at, drop-drop, length-take-le}
 use borrow.Rule.Slice.PartMut.{put_mid}
-use Rattle.crc.specs.Crc.{crc_of, sealed}
-use Rattle.crc.proofs.Sealed.{length_sealed}
 use Rattle.modbus.specs.Wire.{placed}
-
-pub length_placed : (b room : List ℕ) → length b ≤ length room → length (placed b room) ≡ length room
-length_placed b room h = simp (length-append, length-drop) (omega arith)
-
--- bytes stored at the front, one after the other
-pub in_front : (b room : List ℕ) → length b ≤ length room → sets room 0 b ≡ placed b room
-in_front b room h = sets-eq b room 0 (omega (arith, zero-add (length b))) ∙ ap (λ (n : ℕ). b ++ drop n room) (zero-add (length b))
-
--- two more bytes behind what was placed
-pub two_more : (b room : List ℕ) (x y : ℕ) → length b + 2 ≤ length room
-    → set (set (placed b room) (length b) x) (length b + 1) y ≡ placed (b ++ (x ∷ y ∷ [])) room
-two_more b room x y h =
-    let p = placed b room in
-    let n = length b in
-    let e : length p ≡ length room = length_placed b room (omega arith) in
-    ap (λ (k : ℕ). set (set p n x) k y) (add-one n)
-    ∙ sets-eq (x ∷ y ∷ []) p n (omega arith)
-    ∙ ap₂ (λ (u v : List ℕ). u ++ (x ∷ y ∷ []) ++ v) (take_at b (drop n room) n refl) (drop-append-add b (drop n room) 2 ∙ drop-drop 2 n room)
-    ∙ ap (λ (k : ℕ). b ++ (x ∷ y ∷ []) ++ drop k room) (sym (length-append b (x ∷ y ∷ [])))
 
 -- all that follows a place, as a part of a slice
 pub rest : (k : ℕ) (l : List ℕ) → take (length l - k) (drop k l) ≡ drop k l
 rest k l = take_all (length l - k) (drop k l) (le_of_eq (length-drop k l))
 
--- a body of n bytes is placed, and its checksum c behind it, low byte first
-module _ (b room last : List ℕ) (n c lo hi : ℕ) (en : n ≡ length b) (ec : c ≡ crc_of b) (elo : lo ≡ c % 256) (ehi : hi ≡ c / 256)
-    (el : last ≡ placed b room) (h : length b + 2 ≤ length room) where
-  filled : set (set last n lo) (n + 1) hi ≡ placed (sealed b) room
-  unfolding sealed
-  filled =
-      ap₂ (λ (l : List ℕ) (k : ℕ). set (set l k lo) (k + 1) hi) el en
-      ∙ two_more b room lo hi h
-      ∙ ap₂ (λ (x y : ℕ). placed (b ++ (x ∷ y ∷ [])) room) (elo ∙ ap (λ (z : ℕ). z % 256) ec) (ehi ∙ ap (λ (z : ℕ). z / 256) ec)
+-- a body of n bytes is placed, and these bytes behind it
+module _ (b d room last part : List ℕ) (n : ℕ) (en : n ≡ length b) (el : last ≡ placed b room)
+    (ep : part ≡ placed d (take (length last - n) (drop n last))) where
+  left : drop n last ≡ drop (length b) room
+  left = ap (drop n) el ∙ drop_at b (drop (length b) room) n (sym en)
 
-  pub with_checksum : (n + 2 ≡ length (sealed b)) × (set (set last n lo) (n + 1) hi ≡ placed (sealed b) room)
-  with_checksum = (ap (λ (k : ℕ). k + 2) en ∙ sym (length_sealed b), filled)
+  filled : part ≡ d ++ drop (length b + length d) room
+  filled = ep ∙ ap (placed d) (rest n last ∙ left) ∙ ap (λ (x : List ℕ). d ++ x) (drop-drop (length d) (length b) room)
+
+  pub behind_body : put_mid n (length last - n) last part ≡ placed (b ++ d) room
+  behind_body =
+      let front : take n last ≡ b = ap (take n) el ∙ take_at b (drop (length b) room) n (sym en) in
+      let none : drop (length last - n) (drop n last) ≡ [] = drop_of_length-le (drop n last) {i = length last - n} (le_of_eq (length-drop n last)) in
+      ap₂ (λ (x y : List ℕ). x ++ y) front
+      (ap₂ (λ (x y : List ℕ). x ++ y) filled none ∙ append-nil (d ++ drop (length b + length d) room))
+      ∙ sym (append_assoc b d (drop (length b + length d) room))
+      ∙ ap (λ (m : ℕ). (b ++ d) ++ drop m room) (sym (length-append b d))
 
 -- a body of n bytes is placed behind the first k of a room, and then as many bytes as these in front of it
 module _ (k : ℕ) (head b room v last : List ℕ) (hk : length head ≡ k) (ev : v ≡ placed b (take (length room - k) (drop k room)))

@@ -58,7 +58,7 @@ module _ (u : ℕ) where
     on_41 o v m = answered (write_fields 0x41 o v m) (says_41 u lo hi o v m) (λ p q. absurd (omega arith))
 
     as_asked_in : (r : TableRow) (o v x : ℕ) → Named r o → reading_verdict (body_read (body_in r u o v x)) ≡ asked_in r u o v
-    unfolding first_of fits_of ask_of
+    unfolding fits_of ask_of
     as_asked_in row_03 o v x h = answered (read_fields 0x03 o) (reads_03 u lo hi o) (λ r w. absurd (omega arith))
     as_asked_in row_04 o v x h = answered (read_fields 0x04 o) (reads_04 u lo hi o) (λ r w. absurd (omega arith))
     as_asked_in row_06 o v x h = answered (write_fields 0x06 o v 0) (writes_06 u lo hi o v) (λ r w. absurd (omega arith))
@@ -75,22 +75,22 @@ module _ (u : ℕ) where
 
   -- pages and messages that no row names
   pub unnamed_alone : (r w v : ℕ) → ((0x0100 ≤ w) × (w ≤ 0x01FF)) ⊎ (0x0300 ≤ w) → answer (sides 0 1 r w v) ≡ exception u 0x17 0x02
-  unfolding first_of fits_of
+  unfolding fits_of
   unnamed_alone r w v (inl h) = rw (ne_eqb 0x00 (w / 256) (λ e. omega (arith, h.0, h.1)), ne_eqb 0x02 (w / 256) (λ e. omega (arith, h.0, h.1)))
   unnamed_alone r w v (inr h) = rw (ne_eqb 0x00 (w / 256) (λ e. omega arith), ne_eqb 0x02 (w / 256) (λ e. omega arith))
 
   pub unnamed_page : (o v : ℕ) → 0x0300 ≤ o → answer (sides 1 1 o o v) ≡ exception u 0x17 0x02
-  unfolding first_of fits_of
+  unfolding fits_of
   unnamed_page o v h =
       rw (ne_eqb 0x00 (o / 256) (λ e. omega arith), ne_eqb 0x01 (o / 256) (λ e. omega arith), ne_eqb 0x02 (o / 256) (λ e. omega arith))
 
   pub high_page : (o v m : ℕ) → 0x0100 ≤ o → answer (write_fields 0x41 o v m) ≡ exception u 0x41 0x02
-  unfolding first_of fits_of
+  unfolding fits_of
   high_page o v m h = rw (ne_eqb 0x00 (o / 256) (λ e. omega arith))
 
   pub unnamed_message : (o v m : ℕ) → o ≤ 0x00FF → (m ≡ 0x0000 → ⊥) → (m ≡ 0x0010 → ⊥) → (m ≡ 0x0020 → ⊥) →
       answer (write_fields 0x41 o v m) ≡ exception u 0x41 0x03
-  unfolding first_of fits_of ask_of
+  unfolding fits_of ask_of
   unnamed_message o v m h n0 n1 n2 =
       let e : o / 256 ≡ 0x00 = omega arith in
       rw (e, ne_eqb m 0x0000 n0, ne_eqb m 0x0010 n1, ne_eqb m 0x0020 n2)

@@ -1,5 +1,8 @@
 -- Two answers with one verdict are equal, so what is said of the verdict is said of the answer: each is read back from it.
 -- Assumes nothing.
+use Rattle.std.specs.Prelude.{Result, Ok, Err}
+use Rattle.refusals.specs.declared.Refusal.{Refusal}
+use Rattle.refusals.proofs.Names.{named, named_back}
 use mathlib.Core.Path.{◌≡◌, refl, sym, ap, ◌∙◌}
 use mathlib.Core.Bool.{cond}
 use Prim.Native.Nat.{ℕ}
@@ -10,8 +13,6 @@ use Rattle.modbus.specs.declared.Reading.{Reading}
 use Rattle.modbus.specs.declared.Reading.TheVariants.{Silent, AtOnce, Accepted}
 use Rattle.modbus.specs.declared.Reply.{Reply}
 use Rattle.modbus.specs.declared.Reply.TheVariants.{Exception, Value, Offset, Zero, Whole}
-use Rattle.modbus.specs.declared.Written.{Written}
-use Rattle.modbus.specs.declared.Written.TheVariants.{Count, Refused}
 use Rattle.modbus.specs.Mapping.{type_number}
 use Rattle.modbus.specs.Numbers.{
   Verdict,
@@ -32,7 +33,7 @@ unfoldable pub typed : ℕ → QuestionType
 typed n = cond (eqb n 0) ReadData (cond (eqb n 1) WriteData InvalidData)
 
 unfoldable pub reading : Verdict → Reading
-reading (refused n) = Silent n
+reading (refused n) = Silent (named n)
 reading (exception u f c) = AtOnce (Exception u f c)
 reading (two_value u f v) = AtOnce (Value u f v)
 reading (offset_value u f o v) = AtOnce (Offset u f o v)
@@ -40,7 +41,7 @@ reading (nought u f) = AtOnce (Zero u f)
 reading (offset_value_type u o v t) = AtOnce (Whole u o v t)
 reading (order l t i v a f o m) =
     Accepted (record { line = l; question = record { t = typed t; id = i; value = v; alone = a }; function = f; offset = o; form = m })
-reading (bytes n) = Silent n
+reading (bytes n) = Silent (named n)
 
 typed_back : (t : QuestionType) → typed (type_number t) ≡ t
 unfolding typed
@@ -58,7 +59,7 @@ reply_back (Whole u o v t) = refl
 
 pub reading_back : (r : Reading) → reading (reading_verdict r) ≡ r
 unfolding reading
-reading_back (Silent n) = refl
+reading_back (Silent r) = ap Silent (named_back r)
 reading_back (AtOnce r) = reply_back r
 reading_back (Accepted o) =
     ap (λ (t : QuestionType). Accepted (record {
@@ -75,20 +76,20 @@ one_reading r s e = sym (reading_back r) ∙ ap reading e ∙ reading_back s
 pub one_reply : (r s : Reply) → reply_verdict r ≡ reply_verdict s → r ≡ s
 one_reply r s e = let same = one_reading (AtOnce r) (AtOnce s) e in cc
 
-written : Verdict → Written
-written (refused n) = Refused n
-written (exception u f c) = Refused c
-written (two_value u f v) = Refused v
-written (offset_value u f o v) = Refused v
-written (nought u f) = Refused f
-written (offset_value_type u o v t) = Refused v
-written (order l t i v a f o m) = Refused v
-written (bytes n) = Count n
+written : Verdict → Result ℕ Refusal
+written (refused n) = Err (named n)
+written (exception u f c) = Err (named c)
+written (two_value u f v) = Err (named v)
+written (offset_value u f o v) = Err (named v)
+written (nought u f) = Err (named f)
+written (offset_value_type u o v t) = Err (named v)
+written (order l t i v a f o m) = Err (named v)
+written (bytes n) = Ok n
 
-written_back : (w : Written) → written (written_verdict w) ≡ w
+written_back : (w : Result ℕ Refusal) → written (written_verdict w) ≡ w
 unfolding written
-written_back (Count n) = refl
-written_back (Refused n) = refl
+written_back (Ok n) = refl
+written_back (Err r) = ap Err (named_back r)
 
-pub one_written : (v w : Written) → written_verdict v ≡ written_verdict w → v ≡ w
+pub one_written : (v w : Result ℕ Refusal) → written_verdict v ≡ written_verdict w → v ≡ w
 one_written v w e = sym (written_back v) ∙ ap written e ∙ written_back w

@@ -9,6 +9,8 @@ use native.Mathlib.Omega.{arith}
 use borrow.Author.Tests.{le-leb, lt-leb, eq-eqb, leb-true, eqb-true}
 use lib.Dec.{lit<}
 use lib.ListN.{length, take, drop}
+use Rattle.refusals.specs.declared.Refusal.{Refusal}
+use Rattle.refusals.specs.declared.Refusal.TheVariants.{WrongLength}
 use Rattle.word.specs.Checks.{Fails, here, later, Passes, none, all}
 use Rattle.word.proofs.Checks.{refuses, goes_on}
 use Rattle.crc.specs.Crc.{passes_of, sealed}
@@ -34,7 +36,7 @@ take_bytes (suc n) [] h k = lit< tt
 take_bytes (suc n) (x ∷ s) h zero = h 0
 take_bytes (suc n) (x ∷ s) h (suc k) = take_bytes n s (λ j. h (suc j)) k
 
-serial_eleven : (b : List ℕ) → (length b < 2) ⊎ (254 < length b) → Fails (serial_checks (sealed b)) 11
+serial_eleven : (b : List ℕ) → (length b < 2) ⊎ (254 < length b) → Fails (serial_checks (sealed b)) WrongLength
 serial_eleven b (inl short) = let n = length_sealed b in here (lt-leb 4 (length (sealed b)) (omega arith))
 serial_eleven b (inr long) =
     let n = length_sealed b in
@@ -43,11 +45,11 @@ serial_eleven b (inr long) =
 passing : (s : List ℕ) → Passes (serial_checks s) → passes_of s ≡ true
 passing s (all short (all long (all passes rest))) = passes
 
-serial_numbered : (s : List ℕ) (n : ℕ) → Fails (serial_checks s) n → Among serial.numbers n
-serial_numbered s n (here e) = inl refl
-serial_numbered s n (later e (here f)) = inl refl
-serial_numbered s n (later e (later f (here g))) = inr (inl refl)
-serial_numbered s n (later e (later f (later g x))) = elim x [ ]
+serial_listed : (s : List ℕ) (r : Refusal) → Fails (serial_checks s) r → Among serial.silences r
+serial_listed s r (here e) = inl refl
+serial_listed s r (later e (here f)) = inl refl
+serial_listed s r (later e (later f (here g))) = inr (inl refl)
+serial_listed s r (later e (later f (later g x))) = elim x [ ]
 
 pub serial_lawful : Lawful serial
 serial_lawful = record {
@@ -60,7 +62,7 @@ serial_lawful = record {
   eleven = λ t b. serial_eleven b;
   rewraps = λ s h p. passes_sealed s (passing s p);
   bytes = λ s h. take_bytes (length s - 2) s h;
-  numbered = serial_numbered;
+  listed = serial_listed;
   fits = λ t b. omega (arith, length_sealed b);
 }
 
@@ -81,7 +83,7 @@ protocol_back t b = pair_back (pair t []) (pair (length b) b) 0
 length_back : (t : ℕ) (b : List ℕ) → pair_at (headed t b) 4 ≡ length b
 length_back t b = pair_back (pair t (pair 0 [])) b (length b)
 
-tcp_eleven : (t : ℕ) (b : List ℕ) → (length b < 2) ⊎ (254 < length b) → Fails (tcp_checks (headed t b)) 11
+tcp_eleven : (t : ℕ) (b : List ℕ) → (length b < 2) ⊎ (254 < length b) → Fails (tcp_checks (headed t b)) WrongLength
 tcp_eleven t b (inl short) = here (lt-leb 8 (length (headed t b)) (omega arith))
 tcp_eleven t b (inr long) = later (le-leb 8 (length (headed t b)) (omega arith)) (here (lt-leb (length (headed t b)) 260 (omega arith)))
 
@@ -98,12 +100,12 @@ tcp_rewraps (x0 ∷ x1 ∷ x2 ∷ []) h (all short p) = absurd (let n = leb-true
 tcp_rewraps (x0 ∷ x1 ∷ x2 ∷ x3 ∷ []) h (all short p) = absurd (let n = leb-true 8 4 short in omega arith)
 tcp_rewraps (x0 ∷ x1 ∷ x2 ∷ x3 ∷ x4 ∷ []) h (all short p) = absurd (let n = leb-true 8 5 short in omega arith)
 
-tcp_numbered : (s : List ℕ) (n : ℕ) → Fails (tcp_checks s) n → Among tcp.numbers n
-tcp_numbered s n (here e) = inl refl
-tcp_numbered s n (later e (here f)) = inl refl
-tcp_numbered s n (later e (later f (here g))) = inr (inl refl)
-tcp_numbered s n (later e (later f (later g (here i)))) = inr (inr (inl refl))
-tcp_numbered s n (later e (later f (later g (later i x)))) = elim x [ ]
+tcp_listed : (s : List ℕ) (r : Refusal) → Fails (tcp_checks s) r → Among tcp.silences r
+tcp_listed s r (here e) = inl refl
+tcp_listed s r (later e (here f)) = inl refl
+tcp_listed s r (later e (later f (here g))) = inr (inl refl)
+tcp_listed s r (later e (later f (later g (here i)))) = inr (inr (inl refl))
+tcp_listed s r (later e (later f (later g (later i x)))) = elim x [ ]
 
 pub tcp_lawful : Lawful tcp
 tcp_lawful = record {
@@ -118,7 +120,7 @@ tcp_lawful = record {
   eleven = tcp_eleven;
   rewraps = tcp_rewraps;
   bytes = drop_bytes 6;
-  numbered = tcp_numbered;
+  listed = tcp_listed;
   fits = λ t b. omega arith;
 }
 
@@ -139,7 +141,7 @@ module _ {W : Wrapping} (law : Lawful W) where
   unfolding reads
   as_its_body t b h k = goes_on Silent (body_read (W.body (W.wraps t b))) (law.passes t b h k) ∙ ap body_read (law.unwraps t b)
 
-  pub not_sized : (t : ℕ) (b : List ℕ) → (length b < 2) ⊎ (254 < length b) → reads W (W.wraps t b) ≡ Silent 11
+  pub not_sized : (t : ℕ) (b : List ℕ) → (length b < 2) ⊎ (254 < length b) → reads W (W.wraps t b) ≡ Silent WrongLength
   unfolding reads
   not_sized t b h = refuses Silent (body_read (W.body (W.wraps t b))) (law.eleven t b h)
 

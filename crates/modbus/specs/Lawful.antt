@@ -1,6 +1,8 @@
 -- What is used of a wrapping; and of a message in whatever wrapping, that becomes an order or gets its reply at once.
 -- Assumes nothing: these are definitions.
 use Rattle.std.specs.Prelude.{ℕ, ◌+◌, ◌≤◌, ◌<◌, ◌≡◌, ◌⊎◌, List, [], ◌∷◌, length}
+use Rattle.refusals.specs.declared.Refusal.{Refusal}
+use Rattle.refusals.specs.declared.Refusal.TheVariants.{WrongLength}
 use Rattle.word.specs.Checks.{Fails, Passes}
 use Rattle.modbus.specs.declared.Form.{Form}
 use Rattle.modbus.specs.declared.Form.TheVariants as form
@@ -31,10 +33,10 @@ pub data GivenAtOnce : Reply → Type 0 where
   exception : (u f code : ℕ) → GivenAtOnce (Exception u f code)
   own : (f : ℕ) → GivenAtOnce (Value 5 f 0x0100)
 
--- n is one of these numbers
-abbrev pub Among : List ℕ → ℕ → Type 0
-Among [] n = ⊥
-Among (m ∷ ms) n = (n ≡ m) ⊎ Among ms n
+-- x is one of these
+abbrev pub Among : {A : Type 0} → List A → A → Type 0
+Among [] x = ⊥
+Among (y ∷ ys) x = (x ≡ y) ⊎ Among ys x
 
 pub record Lawful (W : Wrapping) : Type 0 where
   -- what is wrapped unwraps to the same body; where nothing is written there is none
@@ -44,11 +46,11 @@ pub record Lawful (W : Wrapping) : Type 0 where
   pub echoes : (t : ℕ) (b c : List ℕ) → W.wraps (W.transaction (W.wraps t b)) c ≡ W.wraps t c
   -- a body of 2 to 254 bytes, wrapped, passes the checks; every other is refused with 11
   pub passes : (t : ℕ) (b : List ℕ) → 2 ≤ length b → length b ≤ 254 → Passes (W.checks (W.wraps t b))
-  pub eleven : (t : ℕ) (b : List ℕ) → (length b < 2) ⊎ (254 < length b) → Fails (W.checks (W.wraps t b)) 11
+  pub eleven : (t : ℕ) (b : List ℕ) → (length b < 2) ⊎ (254 < length b) → Fails (W.checks (W.wraps t b)) WrongLength
   -- what passes is its own body and transaction, wrapped; and a message of bytes has a body of bytes
   pub rewraps : (s : List ℕ) → Bytes s → Passes (W.checks s) → W.wraps (W.transaction s) (W.body s) ≡ s
   pub bytes : (s : List ℕ) → Bytes s → Bytes (W.body s)
-  -- no other number is a silence
-  pub numbered : (s : List ℕ) (n : ℕ) → Fails (W.checks s) n → Among W.numbers n
+  -- no other refusal is a silence
+  pub listed : (s : List ℕ) (r : Refusal) → Fails (W.checks s) r → Among W.silences r
   -- a reply's body has at most 8 bytes, so it fits into 16
   pub fits : (t : ℕ) (b : List ℕ) → length (W.wraps t b) ≤ length b + 8

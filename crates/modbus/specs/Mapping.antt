@@ -1,6 +1,9 @@
 -- The mapping (01, 'Modbus'): the table's rows, and 01's checks in 01's order, over a message's body (see Shape), in any wrapping.
 -- Assumes nothing: these are definitions.
-use Rattle.std.specs.Prelude.{ℕ, ◌/◌, ◌%◌, List, [], ◌∷◌, Bool, true, false, cond, not, ◌&&◌, ◌||◌, eqb, leb, ltb}
+use Rattle.std.specs.Prelude.{ℕ, ◌/◌, ◌%◌, List, [], ◌∷◌, Bool, true, false, cond, not, ◌&&◌, eqb, leb, ltb, Option, Some, None, find, map}
+use Rattle.std.specs.List.{list_any}
+use Rattle.refusals.specs.declared.Refusal.{Refusal}
+use Rattle.refusals.specs.declared.Refusal.TheVariants.{NoSuchUnit, NoSuchFunction}
 use Rattle.word.specs.Checks.{Check, must, judged}
 use Rattle.word.specs.Frame.{read_data, write_data, invalid_data, bare, evened}
 use Rattle.modbus.specs.Shape.{unit_of, function_of, formed_of, request_fields}
@@ -16,18 +19,14 @@ use Rattle.modbus.specs.declared.Reply.TheVariants.{Exception, Value}
 use Rattle.modbus.specs.declared.shape.Fields.{Fields}
 use Rattle.modbus.specs.declared.rows.Asks.{Asks}
 use Rattle.modbus.specs.declared.rows.Asks.TheVariants.{Alone, Always, ByMessage}
-use Rattle.modbus.specs.declared.rows.Found.{Found}
-use Rattle.modbus.specs.declared.rows.Found.TheVariants.{First, Nothing}
 use Rattle.modbus.specs.declared.rows.Page.{Page}
 use Rattle.modbus.specs.declared.rows.Page.TheVariants.{Any, At}
 use Rattle.modbus.specs.declared.rows.Row.{Row}
-use Rattle.modbus.specs.declared.rows.Naming.{Naming}
-use Rattle.modbus.specs.declared.rows.Naming.TheVariants.{Known, Unnamed}
 
 -- ---- the rows
 
 abbrev pub row : ℕ → ℕ → ℕ → Page → Asks → Form → Row
-row f r w p q m = record { 0 = f; 1 = r; 2 = w; 3 = p; 4 = q; 5 = m }
+row f r w p q m = record { function = f; reads = r; writes = w; page = p; asks = q; form = m }
 
 -- function, registers read and written, offset page, question on the line, normal reply
 abbrev pub mapping_rows : List Row
@@ -47,28 +46,25 @@ mapping_rows =
 
 -- "with one, only that side's offset is looked at"; with both they are equal: a row that reads has the read's, one that only writes the write's
 abbrev pub offset_by : Row → Fields → ℕ
-offset_by r a = cond (eqb r.1 0) a.to a.from
+offset_by r a = cond (eqb r.reads 0) a.to a.from
 
 abbrev pub on_of : Page → ℕ → Bool
 on_of Any high = true
 on_of (At h) high = eqb h high
 
 unfoldable pub fits_of : Row → Fields → Bool
-fits_of r a = eqb r.0 a.function && (eqb r.1 a.reads && (eqb r.2 a.writes && on_of r.3 (offset_by r a / 256)))
+fits_of r a = eqb r.function a.function && (eqb r.reads a.reads && (eqb r.writes a.writes && on_of r.page (offset_by r a / 256)))
 
-unfoldable pub first_of : List Row → Fields → Found
-first_of [] a = Nothing
-first_of (r ∷ rs) a = cond (fits_of r a) (First r) (first_of rs a)
+abbrev pub first_of : List Row → Fields → Option Row
+first_of rs a = find (λ r. fits_of r a) rs
 
 -- ---- the functions
 
 abbrev pub among : ℕ → List ℕ → Bool
-among f [] = false
-among f (n ∷ ns) = eqb f n || among f ns
+among f ns = list_any (eqb f) ns
 
 abbrev pub functions_of : List Row → List ℕ
-functions_of [] = []
-functions_of (r ∷ rs) = r.0 ∷ functions_of rs
+functions_of rs = map (λ r. r.function) rs
 
 -- "Unit 5 serves 03, 04, 06, 10"
 abbrev pub own_functions : List ℕ
@@ -87,16 +83,16 @@ type_number WriteData = write_data
 type_number InvalidData = invalid_data
 
 -- "type 0, 1 or 2 from message 0000, 0010, 0020"; "message 0030 is 03, .. and so is every message not named in the row"
-abbrev pub by_message : ℕ → Naming
+abbrev pub by_message : ℕ → Option QuestionType
 by_message m =
-    cond (eqb m 0x0000) (Known ReadData)
-    (cond (eqb m 0x0010) (Known WriteData)
-    (cond (eqb m 0x0020) (Known InvalidData)
-    Unnamed))
+    cond (eqb m 0x0000) (Some ReadData)
+    (cond (eqb m 0x0010) (Some WriteData)
+    (cond (eqb m 0x0020) (Some InvalidData)
+    None))
 
-abbrev pub type_from : Asks → ℕ → Naming
-type_from Alone m = Known ReadData
-type_from (Always t) m = Known t
+abbrev pub type_from : Asks → ℕ → Option QuestionType
+type_from Alone m = Some ReadData
+type_from (Always t) m = Some t
 type_from ByMessage m = by_message m
 
 -- "codes 03 and 04 and code 17 with a read alone" (02, Ask 2): which rows ask this way stands in the table
@@ -110,10 +106,10 @@ abbrev pub as_order : ℕ → Fields → Row → QuestionType → Order
 as_order u a r t =
     record {
       line = u;
-      question = record { t = t; id = offset_by r a % 256; value = a.value; alone = alone_by r.4 };
+      question = record { t = t; id = offset_by r a % 256; value = a.value; alone = alone_by r.asks };
       function = a.function;
       offset = offset_by r a;
-      form = r.5;
+      form = r.form;
     }
 
 -- the question's word: its type, id and value, with even parity and spare bits 0. (What goes out for a status question is for its line to say.)
@@ -126,41 +122,41 @@ abbrev pub at_once : ℕ → ℕ → ℕ → Reading
 at_once u f code = AtOnce (Exception u f code)
 
 -- "type for 41 (03)": the last check of a request by itself
-abbrev pub typed_as : ℕ → Fields → Row → Naming → Reading
-typed_as u a r (Known t) = Accepted (as_order u a r t)
-typed_as u a r Unnamed = at_once u a.function 0x03
+abbrev pub typed_as : ℕ → Fields → Row → Option QuestionType → Reading
+typed_as u a r (Some t) = Accepted (as_order u a r t)
+typed_as u a r None = at_once u a.function 0x03
 
 unfoldable pub ask_of : ℕ → Fields → Row → Reading
-ask_of u a r = typed_as u a r (type_from r.4 a.message)
+ask_of u a r = typed_as u a r (type_from r.asks a.message)
 
-abbrev pub found_as : ℕ → Fields → Found → Reading
-found_as u a (First r) = ask_of u a r
-found_as u a Nothing = at_once u a.function 0x02
+abbrev pub found_as : ℕ → Fields → Option Row → Reading
+found_as u a (Some r) = ask_of u a r
+found_as u a None = at_once u a.function 0x02
 
 -- "For 17 with both, the two offsets are equal (else 02)"
 unfoldable pub unlike_of : Fields → Bool
 unlike_of a = not (eqb a.reads 0) && (not (eqb a.writes 0) && not (eqb a.from a.to))
 
 -- "offset (02)": "Offsets that the 17 rows don't name are 02. For 41 the offset's high byte is 0"
-abbrev pub offset_checks : Fields → List Check
+abbrev pub offset_checks : Fields → List (Check ℕ)
 offset_checks a = must 0x02 (not (unlike_of a)) ∷ []
 
 unfoldable pub mapped_of : ℕ → Fields → Reading
 mapped_of u a = judged (offset_checks a) (at_once u a.function) (found_as u a (first_of mapping_rows a))
 
 -- "register 0076 reads 0100 (version 1.0); writing it, and every other register, is 02"
-abbrev pub own_checks : Fields → List Check
+abbrev pub own_checks : Fields → List (Check ℕ)
 own_checks a = must 0x02 (eqb a.reads 1) ∷ must 0x02 (eqb a.from 0x0076) ∷ []
 
 unfoldable pub own_of : Fields → Reading
 own_of a = judged (own_checks a) (at_once 5 a.function) (AtOnce (Value 5 a.function 0x0100))
 
 -- "unit 1 to 5; function below 80": 13 and 14, silent
-abbrev pub silent_checks : List ℕ → List Check
-silent_checks b = must 13 (leb 1 (unit_of b)) ∷ must 13 (leb (unit_of b) 5) ∷ must 14 (ltb (function_of b) 0x80) ∷ []
+abbrev pub silent_checks : List ℕ → List (Check Refusal)
+silent_checks b = must NoSuchUnit (leb 1 (unit_of b)) ∷ must NoSuchUnit (leb (unit_of b) 5) ∷ must NoSuchFunction (ltb (function_of b) 0x80) ∷ []
 
 -- "function served (else exception 01); exact length and byte count, then counts (03)"
-abbrev pub form_checks : List ℕ → List Check
+abbrev pub form_checks : List ℕ → List (Check ℕ)
 form_checks b = must 0x01 (served_of (unit_of b) (function_of b)) ∷ must 0x03 (formed_of (function_of b) b) ∷ []
 
 -- a request of the right form: "Unit 5 serves .. at once and never makes an order"

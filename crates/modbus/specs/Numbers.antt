@@ -1,14 +1,14 @@
 -- What becomes of a message, of a reply and of its room, in 01's numbers and values: 'Numbered answers', the exception codes, the table's
 -- second and third column. Nothing is lost: two answers with one verdict are equal (proofs/Verdicts).
 -- Assumes nothing: these are definitions.
-use Rattle.std.specs.Prelude.{ℕ, Bool}
+use Rattle.refusals.specs.declared.Refusal.{Refusal}
+use Rattle.refusals.specs.Numbers.{number_of}
+use Rattle.std.specs.Prelude.{ℕ, Bool, Result, Ok, Err}
 use Rattle.modbus.specs.declared.Form.{Form}
 use Rattle.modbus.specs.declared.Reading.{Reading}
 use Rattle.modbus.specs.declared.Reading.TheVariants.{Silent, AtOnce, Accepted}
 use Rattle.modbus.specs.declared.Reply.{Reply}
 use Rattle.modbus.specs.declared.Reply.TheVariants.{Exception, Value, Offset, Zero, Whole}
-use Rattle.modbus.specs.declared.Written.{Written}
-use Rattle.modbus.specs.declared.Written.TheVariants.{Count, Refused}
 use Rattle.modbus.specs.Mapping.{type_number}
 
 pub data Verdict : Type 0 where
@@ -37,11 +37,11 @@ reply_verdict (Zero u f) = nought u f
 reply_verdict (Whole u o v t) = offset_value_type u o v t
 
 abbrev pub reading_verdict : Reading → Verdict
-reading_verdict (Silent n) = refused n
+reading_verdict (Silent r) = refused (number_of r)
 reading_verdict (AtOnce r) = reply_verdict r
 reading_verdict (Accepted o) =
     order o.line (type_number o.question.t) o.question.id o.question.value o.question.alone o.function o.offset o.form
 
-abbrev pub written_verdict : Written → Verdict
-written_verdict (Count n) = bytes n
-written_verdict (Refused n) = refused n
+abbrev pub written_verdict : Result ℕ Refusal → Verdict
+written_verdict (Ok n) = bytes n
+written_verdict (Err r) = refused (number_of r)

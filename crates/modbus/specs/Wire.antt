@@ -1,6 +1,8 @@
 -- A reply's body, and a lent room (01, 'Modbus' and 'Numbered answers').
 -- Assumes nothing: these are definitions.
 use Rattle.std.specs.Prelude.{ℕ, ◌+◌, ◌*◌, ◌%◌, ◌≡◌, List, [], ◌∷◌, ◌++◌, leb, length, get_or, drop}
+use Rattle.refusals.specs.declared.Refusal.{Refusal}
+use Rattle.refusals.specs.declared.Refusal.TheVariants.{ShortRoom}
 use Rattle.word.specs.Checks.{Check, must}
 use Rattle.places.specs.Bytes.{pair}
 use Rattle.modbus.specs.declared.Reply.{Reply}
@@ -27,9 +29,9 @@ pub data ValueAt (b : List ℕ) : ℕ → Type 0 where
 abbrev pub placed : List ℕ → List ℕ → List ℕ
 placed b room = b ++ drop (length b) room
 
--- "lent room below 16 bytes (reply)"
+-- 15, "lent room below 16 bytes (reply)"
 abbrev pub least_room : ℕ
 least_room = 16
 
-abbrev pub room_checks : List ℕ → List Check
-room_checks room = must 15 (leb least_room (length room)) ∷ []
+abbrev pub room_checks : List ℕ → List (Check Refusal)
+room_checks room = must ShortRoom (leb least_room (length room)) ∷ []

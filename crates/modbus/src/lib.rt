@@ -5,6 +5,8 @@
 pub mod rows;
 pub mod shape;
 
+use refusals::Refusal;
+
 // How messages and replies are wrapped. A box has either form (02, Ask 4).
 #[derive(Clone, Copy)]
 pub enum MessageForm {
@@ -14,12 +16,12 @@ pub enum MessageForm {
     Tcp,
 }
 
-// The type of a question on the line: 0, 1 and 2.
+// The type of a question, as it goes out on the line.
 #[derive(Clone, Copy)]
 pub enum QuestionType {
-    ReadData,
-    WriteData,
-    InvalidData,
+    ReadData = 0,
+    WriteData = 1,
+    InvalidData = 2,
 }
 
 // What an order asks of its line's boiler; and whether it is a read alone, which takes the master's own status with it for ids 0 and 70 (02,
@@ -61,13 +63,15 @@ pub struct Order {
     pub form: Form,
 }
 
-// What an order came to: the boiler's type and value, or no answer.
+// What an order came to: the boiler's type and value, or no answer. No Option: 'no answer' is 01's word for an outcome, and the promises use it. The type
+// is a number, since the reply's bytes are said of every type that an answer could name (`normal_of`, specs/Outcomes.antt).
 #[derive(Clone, Copy)]
 pub enum Outcome {
     Answer(u8, u16),
     NoAnswer,
 }
 
+// A code or a type is a number: the bytes of an exception and of 41's reply are said of each one, not of 01's alone (`body_of`, specs/Wire.antt).
 #[derive(Clone, Copy)]
 pub enum Reply {
     // Unit, function, code.
@@ -86,18 +90,10 @@ pub enum Reply {
 #[derive(Clone, Copy)]
 pub enum Reading {
     // Refusal 11 to 14, 17 or 18: no reply at all.
-    Silent(u8),
+    Silent(Refusal),
     // An exception, or unit 5's reply.
     AtOnce(Reply),
     // Whether there is a status to send, and whether another order already waits, is for the box to say: `lacking_of` and `busy_of`
     // (specs/Outcomes.antt) are the replies then.
     Accepted(Order),
-}
-
-#[derive(Clone, Copy)]
-pub enum Written {
-    // So many bytes stand in the room.
-    Count(usize),
-    // Refusal 15.
-    Refused(u8),
 }

@@ -1,7 +1,7 @@
-// The words of the mapping's rows, and of what a look-up in them gives.
+// The words of the mapping's rows.
 use crate::{Form, QuestionType};
 
-// The offset's high byte.
+// The offset's high byte. No Option: None would read as no page, where Any is every page.
 #[derive(Clone, Copy)]
 pub enum Page {
     Any,
@@ -19,19 +19,14 @@ pub enum Asks {
     ByMessage,
 }
 
-// Function, registers read and written, offset page, question, reply form: eight bytes.
+// Eight bytes.
 #[derive(Clone, Copy)]
-pub struct Row(pub u8, pub u8, pub u8, pub Page, pub Asks, pub Form);
-
-#[derive(Clone, Copy)]
-pub enum Found {
-    First(Row),
-    Nothing,
-}
-
-// What a row and the message field give for a type.
-#[derive(Clone, Copy)]
-pub enum Naming {
-    Known(QuestionType),
-    Unnamed,
+pub struct Row {
+    pub function: u8,
+    // Registers read and written: 0 or 1.
+    pub reads: u8,
+    pub writes: u8,
+    pub page: Page,
+    pub asks: Asks,
+    pub form: Form,
 }

@@ -1,6 +1,6 @@
 // The fields of a request; where each stands is in specs/Shape.antt.
 
-// What a request of the right form says.
+// What a request of the right form says. What is not there is 0, and no Option: the rows compare the counts (`fits_of`), and `request_fields` says 0.
 #[derive(Clone, Copy)]
 pub struct Fields {
     pub function: u8,

@@ -11,9 +11,10 @@ ghost use Rattle.modbus.specs.Wrapping.{wrapping_of, reply_written, reply_room};
 
 use crate::answers::normal;
 use crate::wrappings::{serial, tcp};
-use modbus::{MessageForm, Order, Outcome, Reply, Written};
+use modbus::{MessageForm, Order, Outcome, Reply};
+use refusals::Refusal;
 
-// An exception to an order: at once, or as its outcome.
+// An exception to an order: at once, or as its outcome. The code is a number: what is written of it is said of each one (modbus, `Reply`).
 pub fn exception(o: Order, code: u8) -> Reply
     ensures { result ≡ exception_of o code }
 {
@@ -26,24 +27,27 @@ pub fn answer(o: Order, w: Outcome) -> Reply
     ensures { result ≡ answer_of o w }
 {
     match w {
-        Outcome::Answer(t, value) => {
-            let form = o.form;
-            normal(form, o, t, value)
-        }
+        Outcome::Answer(t, value) => normal(o.form, o, t, value),
         Outcome::NoAnswer => exception(o, 0x0b),
     }
 }
 
-// A reply in its form, with the transaction of the message that it answers, in front of a room. (The serial form has none.)
+// A reply in its form, with the transaction of the message that it answers, in front of a room. (The serial form has none.) The form is the box's, the
+// transaction the order's: they come from two places, and stay two parameters.
 #[tactic(auto, unfolding(modbus::specs::Wrapping::reply_written, modbus::specs::Wrapping::reply_room, modbus::specs::Wrapping::writes))]
-pub fn write(form: MessageForm, transaction: u16, r: Reply, room: &mut [u8]) -> Written
-    ensures { (result ≡ reply_written (wrapping_of form) transaction r room.old) × (room.new ≡ reply_room (wrapping_of form) transaction r room.old) }
+pub fn write(
+    form: MessageForm,
+    transaction: u16,
+    reply: Reply,
+    room: &mut [u8],
+) -> Result<usize, Refusal>
+    ensures { (result ≡ reply_written (wrapping_of form) transaction reply room.old) × (room.new ≡ reply_room (wrapping_of form) transaction reply room.old) }
 {
     if room.len() < 16 {
-        return Written::Refused(15);
+        return Err(Refusal::ShortRoom);
     }
-    match form {
-        MessageForm::Serial => Written::Count(serial(r, room)),
-        MessageForm::Tcp => Written::Count(tcp(transaction, r, room)),
-    }
+    Ok(match form {
+        MessageForm::Serial => serial(reply, room),
+        MessageForm::Tcp => tcp(transaction, reply, room),
+    })
 }

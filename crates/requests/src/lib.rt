@@ -15,6 +15,7 @@ use crate::map::{at_once, mapped, own};
 use crate::shape::{formed, says};
 use modbus::Reading;
 use places::byte_at;
+use refusals::Refusal;
 
 #[tactic(auto, unfolding(modbus::specs::Mapping::body_read))]
 pub fn read(body: &[u8]) -> Reading
@@ -22,14 +23,11 @@ pub fn read(body: &[u8]) -> Reading
 {
     let unit = byte_at(body, 0);
     let function = byte_at(body, 1);
-    if unit < 1 {
-        return Reading::Silent(13);
-    }
-    if 5 < unit {
-        return Reading::Silent(13);
+    if !(1..=5).contains(&unit) {
+        return Reading::Silent(Refusal::NoSuchUnit);
     }
     if 0x80 <= function {
-        return Reading::Silent(14);
+        return Reading::Silent(Refusal::NoSuchFunction);
     }
     if !served(unit, function) {
         return at_once(unit, function, 0x01);
@@ -37,8 +35,10 @@ pub fn read(body: &[u8]) -> Reading
     if !formed(function, body) {
         return at_once(unit, function, 0x03);
     }
+    let fields = says(function, body);
     if unit == 5 {
-        return own(says(function, body));
+        own(fields)
+    } else {
+        mapped(unit, fields)
     }
-    mapped(unit, says(function, body))
 }
