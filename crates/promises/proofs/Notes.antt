@@ -1,11 +1,12 @@
 -- The notes lose nothing, and take nothing for something else: what was told, and what went out, can be had back from its note; its numbers are the code's
 -- own; and what goes out on line 1 stands in the code's `one`, and so on.
 -- Assumes nothing.
+use Rattle.std.specs.Prelude.{Option, Some, None}
+use Rattle.turns.specs.declared.Talker.{Talker}
+use Rattle.word.specs.declared.Frame.{Frame}
 use mathlib.Core.Path.{◌≡◌, refl}
 use Prim.Native.Nat.{ℕ}
 use Rattle.turns.specs.Events as line
-use Rattle.promises.specs.declared.Out.{Out}
-use Rattle.promises.specs.declared.Out.TheVariants.{Silent, Sent}
 use Rattle.promises.specs.declared.Outs.{Outs}
 use Rattle.promises.specs.declared.Told.{Told}
 use Rattle.promises.specs.declared.Told.TheVariants as told
@@ -39,21 +40,21 @@ pub bytes_as_told : (c w : ℕ) → (box_note_of (told.Reply c) ≡ reply c) × 
 bytes_as_told c w = (refl, refl)
 
 -- `line.sent` for a frame that goes out, and any other note for none
-abbrev pub out_by : line.Note → Out
-out_by line.nothing = Silent
-out_by (line.sent t f) = Sent t f
-out_by line.held = Silent
-out_by (line.passed f) = Silent
-out_by line.dropped = Silent
-out_by line.accepted = Silent
-out_by (line.exception n) = Silent
-out_by (line.answer f n) = Silent
-out_by (line.no_answer n) = Silent
-out_by (line.refused n) = Silent
+abbrev pub out_by : line.Note → Option (Talker × Frame)
+out_by line.nothing = None
+out_by (line.sent t f) = Some (t, f)
+out_by line.held = None
+out_by (line.passed f) = None
+out_by line.dropped = None
+out_by line.accepted = None
+out_by (line.exception n) = None
+out_by (line.answer f n) = None
+out_by (line.no_answer n) = None
+out_by (line.refused n) = None
 
-pub out_back : (o : Out) → out_by (gone_of o) ≡ o
-out_back Silent = refl
-out_back (Sent t f) = refl
+pub out_back : (o : Option (Talker × Frame)) → out_by (gone_of o) ≡ o
+out_back None = refl
+out_back (Some (t, f)) = refl
 
 pub outs_in_order : (o : Outs) → (out_at o 1 ≡ gone_of o.one) × ((out_at o 2 ≡ gone_of o.two) × ((out_at o 3 ≡ gone_of o.three) × (out_at o 4 ≡ gone_of o.four)))
 outs_in_order o = (refl, (refl, (refl, refl)))

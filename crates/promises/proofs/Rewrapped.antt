@@ -1,6 +1,7 @@
 -- Two boxes of two lawful wrappings, to which the same comes up to its wrapping, give the same up to its wrapping: they stay the same but for the
 -- transaction of the order under way.
 -- Assumes nothing.
+use Rattle.std.specs.Prelude.{Option, Some, None}
 use Prim.Native.Nat.{ℕ, zero, suc}
 use mathlib.Core.Path.{◌≡◌, refl, sym, ◌∙◌, subst}
 use mathlib.Core.Logic.{inl, inr}
@@ -9,6 +10,7 @@ use mathlib.Core.List.{List, []}
 use lib.Dec.{eqb, leb}
 use lib.ListN.{length}
 use borrow.Author.Tests.{leb-true, leb-false}
+use Rattle.refusals.specs.Numbers.{number_of}
 use Rattle.word.specs.declared.Frame.{Frame}
 use Rattle.turns.specs.Events.{note_of}
 use Rattle.turns.specs.Line.{Step}
@@ -22,10 +24,6 @@ use Rattle.modbus.specs.Wrapping.{Wrapping, serial, tcp, reads, writes}
 use Rattle.modbus.specs.Lawful.{Lawful}
 use Rattle.modbus.proofs.Wrapping.{serial_lawful, tcp_lawful, as_its_body, not_sized, whole}
 use Rattle.promises.specs.declared.Asking.{Asking}
-use Rattle.promises.specs.declared.Asked.{Asked}
-use Rattle.promises.specs.declared.Asked.TheVariants.{Nothing, Waits}
-use Rattle.promises.specs.declared.Settled.{Settled}
-use Rattle.promises.specs.declared.Settled.TheVariants.{Open, Came}
 use Rattle.promises.specs.declared.Told.{Told}
 use Rattle.promises.specs.declared.Told.TheVariants.{Quiet, Refused}
 use Rattle.promises.specs.Box.{Gateway, Lines, box, Moved, Ticked, Steps}
@@ -40,13 +38,13 @@ use Rattle.promises.specs.Rewrapped.{SameInput, ticks, thermostats, boilers, mes
 use Rattle.promises.proofs.Unjudged.{tick_gift, move_gift, either}
 
 -- the same order under way, or none, and what has become of it
-data SameAsked : Asked → Asked → Type 0 where
-  none : SameAsked Nothing Nothing
-  one : (o : Order) (t u : ℕ) → SameAsked (Waits (record { order = o; transaction = t })) (Waits (record { order = o; transaction = u }))
+data SameAsked : Option Asking → Option Asking → Type 0 where
+  none : SameAsked None None
+  one : (o : Order) (t u : ℕ) → SameAsked (Some (record { order = o; transaction = t })) (Some (record { order = o; transaction = u }))
 
-data SameEnd : Settled → Settled → Type 0 where
-  going : SameEnd Open Open
-  came : (t u : ℕ) (r : Reply) (n : ℕ) → SameEnd (Came t r n) (Came u r n)
+data SameEnd : Option (ℕ × Reply × ℕ) → Option (ℕ × Reply × ℕ) → Type 0 where
+  going : SameEnd None None
+  came : (t u : ℕ) (r : Reply) (n : ℕ) → SameEnd (Some (t, r, n)) (Some (u, r, n))
 
 ends_in : (o : Order) (t u : ℕ) (p : Part) → SameEnd (settled_in (record { order = o; transaction = t }) p) (settled_in (record { order = o; transaction = u }) p)
 ends_in o t u (ends w n) = came t u _ n
@@ -56,22 +54,22 @@ ends_in o t u (tells x) = going
 ends_in o t u takes = going
 ends_in o t u excepts = going
 
-after_tick_lem : {a b : Asked} → SameAsked a b → (s : Steps) → SameEnd (after_tick a s) (after_tick b s)
+after_tick_lem : {a b : Option Asking} → SameAsked a b → (s : Steps) → SameEnd (after_tick a s) (after_tick b s)
 unfolding after_tick settled_of
 after_tick_lem none s = going
 after_tick_lem (one o t u) s = ends_in o t u (part_in (note_of (said_of s o.line)))
 
-after_boiler_lem : {a b : Asked} → SameAsked a b → (l : ℕ) (s : Step) → SameEnd (after_boiler a l s.said) (after_boiler b l s.said)
+after_boiler_lem : {a b : Option Asking} → SameAsked a b → (l : ℕ) (s : Step) → SameEnd (after_boiler a l s.said) (after_boiler b l s.said)
 unfolding after_boiler settled_of
 after_boiler_lem none l s = going
 after_boiler_lem (one o t u) l s = go (eqb o.line l)
   where
     go : (b : Bool) →
-        SameEnd (cond b (settled_of (record { order = o; transaction = t }) s.said) Open) (cond b (settled_of (record { order = o; transaction = u }) s.said) Open)
+        SameEnd (cond b (settled_of (record { order = o; transaction = t }) s.said) None) (cond b (settled_of (record { order = o; transaction = u }) s.said) None)
     go true = ends_in o t u (part_in (note_of s.said))
     go false = going
 
-still : {a b : Asked} {e f : Settled} → SameAsked a b → SameEnd e f → SameAsked (still_of a e) (still_of b f)
+still : {a b : Option Asking} {e f : Option (ℕ × Reply × ℕ)} → SameAsked a b → SameEnd e f → SameAsked (still_of a e) (still_of b f)
 unfolding still_of
 still s going = s
 still s (came t u r n) = none
@@ -89,12 +87,12 @@ module _ {W X : Wrapping} (law : Lawful W) (other : Lawful X) where
   one_body : (t u : ℕ) (r : Reply) → W.body (writes W t r) ≡ X.body (writes X u r)
   one_body t u r = whole law t r ∙ sym (whole other u r)
 
-  wrote : {e f : Settled} → SameEnd e f → W.body (writes_of W e) ≡ X.body (writes_of X f)
+  wrote : {e f : Option (ℕ × Reply × ℕ)} → SameEnd e f → W.body (writes_of W e) ≡ X.body (writes_of X f)
   unfolding writes_of
   wrote going = no_bytes
   wrote (came t u r n) = one_body t u r
 
-  told : {e f : Settled} → SameEnd e f → (x : Told) → uncounted (box_note_of (tell_of W e x)) ≡ uncounted (box_note_of (tell_of X f x))
+  told : {e f : Option (ℕ × Reply × ℕ)} → SameEnd e f → (x : Told) → uncounted (box_note_of (tell_of W e x)) ≡ uncounted (box_note_of (tell_of X f x))
   unfolding tell_of
   told going x = refl
   told (came t u r n) x = refl
@@ -108,7 +106,7 @@ module _ {W X : Wrapping} (law : Lawful W) (other : Lawful X) where
   abbrev OfHeld : Moved → Moved → Type 0
   OfHeld m n = OfMove (gives m []) (gives n [])
 
-  module _ (ls : Lines) {a b : Asked} (s : SameAsked a b) where
+  module _ (ls : Lines) {a b : Option Asking} (s : SameAsked a b) where
     abbrev g : Gateway
     g = box ls a
 
@@ -157,7 +155,7 @@ module _ {W X : Wrapping} (law : Lawful W) (other : Lawful X) where
       abbrev there : Asking
       there = record { order = o; transaction = u }
 
-      of_asked : {c d : Asked} → SameAsked c d → OfMove (asked_of W g c here) (asked_of X k d there)
+      of_asked : {c d : Option Asking} → SameAsked c d → OfMove (asked_of W g c here) (asked_of X k d there)
       unfolding taken_of
       of_asked none = record { lines = refl; asked = one o t u; said = record { told = refl; body = no_bytes; out = λ l. refl } }
       of_asked (one p x y) = of_reply t u (busy_of o)
@@ -168,7 +166,7 @@ module _ {W X : Wrapping} (law : Lawful W) (other : Lawful X) where
 
     of_read : (t u : ℕ) (r : Reading) → OfMove (read_of W g t r) (read_of X k u r)
     unfolding read_of
-    of_read t u (Silent n) = said_at_once (Refused n)
+    of_read t u (Silent r) = said_at_once (Refused (number_of r))
     of_read t u (AtOnce r) = of_reply t u r
     of_read t u (Accepted o) = of_asks o t u
 

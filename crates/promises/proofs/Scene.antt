@@ -5,6 +5,8 @@ use Prim.Native.Nat.{ℕ}
 use mathlib.Core.Path.{◌≡◌, sym, ap, ◌∙◌, subst, subst⁻¹}
 use mathlib.Core.Logic.{⊎_elim}
 use lib.ListN.{length}
+use Rattle.refusals.specs.declared.Refusal.{Refusal}
+use Rattle.refusals.specs.Numbers.{number_of}
 use Rattle.word.specs.declared.Frame.{Frame}
 use Rattle.turns.specs.declared.Talker.TheVariants.{Modbus}
 use Rattle.turns.specs.Events.{Event}
@@ -54,7 +56,7 @@ module _ {W : Wrapping} (law : Lawful W) (h : Inputs) {k : ℕ} (four : Four k) 
   see : (n : ℕ) → Seen k (h n) (E law h k n)
   see n = sees W k (h n) (given W h n).told
 
-  refused_on : (n r : ℕ) → S law h k n ≡ line.refused r → RefusedOn k r (h n) (given W h n).told
+  refused_on : (n : ℕ) (r : Refusal) → S law h k n ≡ line.refused r → RefusedOn k (number_of r) (h n) (given W h n).told
   refused_on n r e = record { frame = ⊎_elim from_unit from_below (of_note n (line.refused r) e); is_refused = says_of n (line.refused r) e }
     where
       from_unit : ((f : Frame) × (E law h k n ≡ line.thermostat f)) → FrameOn k (h n)

@@ -1,6 +1,7 @@
 -- What is told to an input is of its kind, nothing is written where no reply is told, a reply at once is an exception or unit 5's version and
 -- leaves the box as it was, and a frame goes out at a tick alone.
 -- Assumes nothing.
+use Rattle.std.specs.Prelude.{Option, Some, None}
 use Prim.Native.Nat.{ℕ}
 use mathlib.Core.Path.{◌≡◌, refl, sym, ap, ◌∙◌, subst⁻¹}
 use mathlib.Core.Logic.{◌⊎◌, inl, inr}
@@ -22,8 +23,6 @@ use Rattle.modbus.specs.Wrapping.{Wrapping, reads}
 use Rattle.modbus.specs.Lawful.{Lawful, exception}
 use Rattle.modbus.proofs.Messages.{said_at_once as given_at_once}
 use Rattle.promises.specs.declared.Asking.{Asking}
-use Rattle.promises.specs.declared.Asked.{Asked}
-use Rattle.promises.specs.declared.Asked.TheVariants.{Nothing, Waits}
 use Rattle.promises.specs.Box.{Gateway, Moved}
 use Rattle.promises.specs.Notes.{BoxNote, quiet, held, passed, dropped, accepted, reply, outcome, refused, box_note_of, bytes_in}
 use Rattle.promises.specs.Entries.{Does, message_of, read_of, asked_of, lack_of, asks_of, taken_of, replied}
@@ -78,10 +77,10 @@ module _ {W : Wrapping} (law : Lawful W) (h : Inputs) (k : ℕ) where
     abbrev asking : Order → Asking
     asking o = record { order = o; transaction = W.transaction b }
 
-    asked_replies : (c : ℕ) (o : Order) (a : Asked) → box_note_of (asked_of W g a (asking o)).result.told ≡ reply c → Replying x (asked_of W g a (asking o))
+    asked_replies : (c : ℕ) (o : Order) (a : Option Asking) → box_note_of (asked_of W g a (asking o)).result.told ≡ reply c → Replying x (asked_of W g a (asking o))
     unfolding taken_of replied
-    asked_replies c o Nothing e = clash cc
-    asked_replies c o (Waits p) e = excepted o 0x06
+    asked_replies c o None e = clash cc
+    asked_replies c o (Some p) e = excepted o 0x06
 
     read_replies : (c : ℕ) (r : Reading) → reads W b ≡ r → box_note_of (read_of W g (W.transaction b) r).result.told ≡ reply c →
         Replying x (read_of W g (W.transaction b) r)

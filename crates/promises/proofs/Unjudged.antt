@@ -1,6 +1,8 @@
 -- Nothing is decided by the numbers that come with a frame (02, Ask 3): the box does the same without them, and writes the same bytes. And an order's
 -- own frame has none, on each line.
 -- Assumes nothing.
+use Rattle.std.specs.Prelude.{Option, Some, None}
+use Rattle.turns.specs.declared.Talker.{Talker}
 use Prim.Native.Nat.{ℕ, zero, suc}
 use mathlib.Core.Path.{◌≡◌, refl, sym, ap, ap₂, ◌∙◌, subst⁻¹}
 use mathlib.Core.Bool.{Bool, true, false, cond}
@@ -24,14 +26,8 @@ use Rattle.modbus.specs.Outcomes.{lacking_of, busy_of}
 use Rattle.modbus.specs.Wire.{least_room}
 use Rattle.modbus.specs.Wrapping.{Wrapping, reads}
 use Rattle.promises.specs.declared.Asking.{Asking}
-use Rattle.promises.specs.declared.Asked.{Asked}
-use Rattle.promises.specs.declared.Asked.TheVariants.{Nothing, Waits}
-use Rattle.promises.specs.declared.Out.{Out}
-use Rattle.promises.specs.declared.Out.TheVariants as out
 use Rattle.promises.specs.declared.Told.{Told}
 use Rattle.promises.specs.declared.Told.TheVariants.{Quiet}
-use Rattle.promises.specs.declared.Settled.{Settled}
-use Rattle.promises.specs.declared.Settled.TheVariants.{Open, Came}
 use Rattle.promises.specs.Box.{Lines, Gateway, box, Moved, Ticked, Steps}
 use Rattle.promises.specs.Notes.{box_note_of, gone_of}
 use Rattle.promises.specs.Parts.{outcome_of}
@@ -118,10 +114,10 @@ ticks_bare ls =
     ∙ ap₂ (λ (c d : Step). record { one = bare_step (turns.tick_of ls.one); two = bare_step (turns.tick_of ls.two); three = c; four = d })
     (bare_does ls.three line.tick) (bare_does ls.four line.tick)
 
-after_tick_lem : (a : Asked) (s : Steps) → after_tick a (bare_steps s) ≡ after_tick a s
+after_tick_lem : (a : Option Asking) (s : Steps) → after_tick a (bare_steps s) ≡ after_tick a s
 unfolding after_tick said_of
-after_tick_lem Nothing s = refl
-after_tick_lem (Waits o) s =
+after_tick_lem None s = refl
+after_tick_lem (Some o) s =
     ap (settled_of o) (nth_of bare_said o.order.line s.one.said s.two.said s.three.said s.four.said)
     ∙ (alike (said_of s o.order.line)).settles o
 
@@ -130,16 +126,16 @@ outs_bare s k =
     let at : Said = nth k s.one.said s.two.said s.three.said s.four.said in
     ap gone_of (nth_of (λ (x : Said). out_of (bare_said x)) k s.one.said s.two.said s.three.said s.four.said)
     ∙ (alike at).goes
-    ∙ sym (ap (λ (x : Out). bare_note (gone_of x)) (nth_of out_of k s.one.said s.two.said s.three.said s.four.said))
+    ∙ sym (ap (λ (x : Option (Talker × Frame)). bare_note (gone_of x)) (nth_of out_of k s.one.said s.two.said s.three.said s.four.said))
 
 module _ (W : Wrapping) (g : Gateway) where
   -- a reply is told without numbers
-  told_settled : (e : Settled) (t : Told) → box_note_of t ≡ bare_told (box_note_of t) → box_note_of (tell_of W e t) ≡ bare_told (box_note_of (tell_of W e t))
+  told_settled : (e : Option (ℕ × Reply × ℕ)) (t : Told) → box_note_of t ≡ bare_told (box_note_of t) → box_note_of (tell_of W e t) ≡ bare_told (box_note_of (tell_of W e t))
   unfolding tell_of
-  told_settled Open t h = h
-  told_settled (Came u r n) t h = refl
+  told_settled None t h = h
+  told_settled (Some (u, r, n)) t h = refl
 
-  ticked : (s : Steps) (e : Settled) → OfTick (ticked_of W (bare_box g) (bare_steps s) e) (ticked_of W g s e)
+  ticked : (s : Steps) (e : Option (ℕ × Reply × ℕ)) → OfTick (ticked_of W (bare_box g) (bare_steps s) e) (ticked_of W g s e)
   ticked s e = record { state = refl; told = told_settled e Quiet refl; wrote = refl; out = outs_bare s }
 
   of_tick : (n : ℕ) → OfTick (tick_of W (bare_box g) n) (tick_of W g n)
@@ -148,12 +144,12 @@ module _ (W : Wrapping) (g : Gateway) where
       let s = ticks_of g.lines in
       either OfTick (leb least_room n) _ _ _ _
       (subst⁻¹ (λ (x : Steps). OfTick (ticked_of W (bare_box g) x (after_tick g.asked x)) (ticked_of W g s (after_tick g.asked s))) (ticks_bare g.lines)
-      (subst⁻¹ (λ (e : Settled). OfTick (ticked_of W (bare_box g) (bare_steps s) e) (ticked_of W g s (after_tick g.asked s))) (after_tick_lem g.asked s)
+      (subst⁻¹ (λ (e : Option (ℕ × Reply × ℕ)). OfTick (ticked_of W (bare_box g) (bare_steps s) e) (ticked_of W g s (after_tick g.asked s))) (after_tick_lem g.asked s)
       (ticked s (after_tick g.asked s))))
       (record { state = refl; told = refl; wrote = refl; out = λ k. quiet k })
     where
       quiet : (k : ℕ) → out_at no_outs k ≡ bare_note (out_at no_outs k)
-      quiet k = let e = ap gone_of (nth_of (λ (x : ℕ). out.Silent) k 0 0 0 0) in e ∙ sym (ap bare_note e)
+      quiet k = let e = ap gone_of (nth_of (λ (x : ℕ). None) k 0 0 0 0) in e ∙ sym (ap bare_note e)
 
   -- ---- a frame for line l
 
@@ -161,7 +157,7 @@ module _ (W : Wrapping) (g : Gateway) where
   step_bare : (l : ℕ) (e : line.Event) → do_of (line_of (bare_lines g.lines) l) (bare_event e) ≡ bare_step (do_of (line_of g.lines l) e)
   step_bare l e = ap (λ (x : Line). do_of x (bare_event e)) (line_bare g.lines l) ∙ bare_does (line_of g.lines l) e
 
-  put : (l : ℕ) (s : Step) (a : Asked) → box (put_of (bare_lines g.lines) l (bare_line s.line)) a ≡ bare_box (box (put_of g.lines l s.line) a)
+  put : (l : ℕ) (s : Step) (a : Option Asking) → box (put_of (bare_lines g.lines) l (bare_line s.line)) a ≡ bare_box (box (put_of g.lines l s.line) a)
   put l s a = ap (λ (ls : Lines). box ls a) (put_bare g.lines l s.line)
 
   of_thermostat : (l : ℕ) (f : Frame) → OfMove (gives (thermostat_of (bare_box g) l (bare f)) []) (gives (thermostat_of g l f) [])
@@ -173,17 +169,17 @@ module _ (W : Wrapping) (g : Gateway) where
       (record { state = put l s g.asked; told = (alike s.said).tells; wrote = refl; out = λ k. refl }))
       (record { state = refl; told = refl; wrote = refl; out = λ k. refl })
 
-  after_boiler_lem : (a : Asked) (l : ℕ) (s : Said) → after_boiler a l (bare_said s) ≡ after_boiler a l s
+  after_boiler_lem : (a : Option Asking) (l : ℕ) (s : Said) → after_boiler a l (bare_said s) ≡ after_boiler a l s
   unfolding after_boiler
-  after_boiler_lem Nothing l s = refl
-  after_boiler_lem (Waits o) l s = ap (λ (x : Settled). cond (eqb o.order.line l) x Open) ((alike s).settles o)
+  after_boiler_lem None l s = refl
+  after_boiler_lem (Some o) l s = ap (λ (x : Option (ℕ × Reply × ℕ)). cond (eqb o.order.line l) x None) ((alike s).settles o)
 
-  told_frame : (e : Settled) (s : Said) → box_note_of (tell_of W e (plain_of (bare_said s))) ≡ bare_told (box_note_of (tell_of W e (plain_of s)))
+  told_frame : (e : Option (ℕ × Reply × ℕ)) (s : Said) → box_note_of (tell_of W e (plain_of (bare_said s))) ≡ bare_told (box_note_of (tell_of W e (plain_of s)))
   unfolding tell_of
-  told_frame Open s = (alike s).tells
-  told_frame (Came u r n) s = refl
+  told_frame None s = (alike s).tells
+  told_frame (Some (u, r, n)) s = refl
 
-  moved : (l : ℕ) (s : Step) (e : Settled) → OfMove (moved_of W (bare_box g) l (bare_step s) e) (moved_of W g l s e)
+  moved : (l : ℕ) (s : Step) (e : Option (ℕ × Reply × ℕ)) → OfMove (moved_of W (bare_box g) l (bare_step s) e) (moved_of W g l s e)
   moved l s e = record { state = put l s (still_of g.asked e); told = told_frame e s.said; wrote = refl; out = λ k. refl }
 
   of_boiler : (l : ℕ) (f : Frame) (n : ℕ) → OfMove (boiler_of W (bare_box g) l (bare f) n) (boiler_of W g l f n)
@@ -194,7 +190,7 @@ module _ (W : Wrapping) (g : Gateway) where
       either OfMove (leb least_room n) _ _ _ _
       (either OfMove (inside_of l) _ _ _ _
       (subst⁻¹ (λ (x : Step). OfMove (moved_of W (bare_box g) l x (after_boiler g.asked l x.said)) (moved_of W g l s e)) (step_bare l (line.boiler f))
-      (subst⁻¹ (λ (x : Settled). OfMove (moved_of W (bare_box g) l (bare_step s) x) (moved_of W g l s e)) (after_boiler_lem g.asked l s.said) (moved l s e)))
+      (subst⁻¹ (λ (x : Option (ℕ × Reply × ℕ)). OfMove (moved_of W (bare_box g) l (bare_step s) x) (moved_of W g l s e)) (after_boiler_lem g.asked l s.said) (moved l s e)))
       (record { state = refl; told = refl; wrote = refl; out = λ k. refl }))
       (record { state = refl; told = refl; wrote = refl; out = λ k. refl })
 
@@ -209,16 +205,16 @@ module _ (W : Wrapping) (g : Gateway) where
   of_taken o =
       let s = do_of (line_of g.lines o.order.line) (line.order (question_of o.order)) in
       record {
-        state = ap (λ (x : Step). box (put_of (bare_lines g.lines) o.order.line x.line) (Waits o)) (step_bare o.order.line (line.order (question_of o.order)))
-            ∙ put o.order.line s (Waits o);
+        state = ap (λ (x : Step). box (put_of (bare_lines g.lines) o.order.line x.line) (Some o)) (step_bare o.order.line (line.order (question_of o.order)))
+            ∙ put o.order.line s (Some o);
         told = refl;
         wrote = refl;
         out = λ k. refl;
       }
 
-  of_asked : (a : Asked) (o : Asking) → OfMove (asked_of W (bare_box g) a o) (asked_of W g a o)
-  of_asked Nothing o = of_taken o
-  of_asked (Waits p) o = of_reply o.transaction (busy_of o.order)
+  of_asked : (a : Option Asking) (o : Asking) → OfMove (asked_of W (bare_box g) a o) (asked_of W g a o)
+  of_asked None o = of_taken o
+  of_asked (Some p) o = of_reply o.transaction (busy_of o.order)
 
   lack_bare : (o : Order) → lack_of (bare_lines g.lines) o ≡ lack_of g.lines o
   unfolding lack_of

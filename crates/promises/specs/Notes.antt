@@ -1,11 +1,10 @@
 -- What the box tells and what goes out, in 01's numbers and values. One definition from each of the code's answers, and none loses anything
 -- (`told_back`, `out_back` of proofs/Notes.antt). The promises speak of notes only.
 -- Assumes nothing: these are definitions.
-use Rattle.std.specs.Prelude.{ℕ, Bool, true, false}
+use Rattle.std.specs.Prelude.{ℕ, Bool, true, false, Option, Some, None}
 use Rattle.word.specs.declared.Frame.{Frame}
+use Rattle.turns.specs.declared.Talker.{Talker}
 use Rattle.turns.specs.Events as line
-use Rattle.promises.specs.declared.Out.{Out}
-use Rattle.promises.specs.declared.Out.TheVariants.{Silent, Sent}
 use Rattle.promises.specs.declared.Told.{Told}
 use Rattle.promises.specs.declared.Told.TheVariants as told
 
@@ -33,9 +32,9 @@ box_note_of (told.Outcome c w) = outcome c w
 box_note_of (told.Refused n) = refused n
 
 -- what goes out on a line, as a line alone notes it
-abbrev pub gone_of : Out → line.Note
-gone_of Silent = line.nothing
-gone_of (Sent t f) = line.sent t f
+abbrev pub gone_of : Option (Talker × Frame) → line.Note
+gone_of None = line.nothing
+gone_of (Some (t, f)) = line.sent t f
 
 -- how many bytes stand in the room
 abbrev pub bytes_in : BoxNote → ℕ

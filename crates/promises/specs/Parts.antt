@@ -1,14 +1,13 @@
 -- What the box makes of what a line says: each note of a line is one of these, and goes out, is told, or is an order's.
 -- Assumes nothing: these are definitions.
-use Rattle.std.specs.Prelude.{ℕ}
+use Rattle.std.specs.Prelude.{ℕ, Option, Some, None}
+use Rattle.refusals.specs.Numbers.{number_of}
 use Rattle.word.specs.declared.Frame.{Frame}
 use Rattle.word.specs.Frame.{type_of, value_of}
 use Rattle.turns.specs.declared.Talker.{Talker}
 use Rattle.turns.specs.Events as line
 use Rattle.modbus.specs.declared.Outcome.{Outcome}
 use Rattle.modbus.specs.declared.Outcome.TheVariants.{Answer, NoAnswer}
-use Rattle.promises.specs.declared.Out.{Out}
-use Rattle.promises.specs.declared.Out.TheVariants.{Silent, Sent}
 use Rattle.promises.specs.declared.Told.{Told}
 use Rattle.promises.specs.declared.Told.TheVariants.{Quiet, Held, Passed, Dropped, Refused}
 
@@ -33,20 +32,20 @@ part_in (line.sent t f) = goes t f
 part_in line.held = tells Held
 part_in (line.passed f) = tells (Passed f)
 part_in line.dropped = tells Dropped
-part_in (line.refused n) = tells (Refused n)
+part_in (line.refused r) = tells (Refused (number_of r))
 part_in line.accepted = takes
 part_in (line.exception n) = excepts
 part_in (line.answer f n) = ends (outcome_of f) n
 part_in (line.no_answer n) = ends NoAnswer n
 
 -- what goes out
-abbrev pub out_in : Part → Out
-out_in nothing = Silent
-out_in (goes t f) = Sent t f
-out_in (tells t) = Silent
-out_in takes = Silent
-out_in excepts = Silent
-out_in (ends w n) = Silent
+abbrev pub out_in : Part → Option (Talker × Frame)
+out_in nothing = None
+out_in (goes t f) = Some (t, f)
+out_in (tells t) = None
+out_in takes = None
+out_in excepts = None
+out_in (ends w n) = None
 
 -- what is told of a frame
 abbrev pub told_in : Part → Told

@@ -2,6 +2,7 @@
 -- the crate turns, of this, are what is promised of each line's turns and to its thermostat, in the box's words.
 -- Nothing here knows how the box works. Assumes nothing: these are definitions.
 use Rattle.std.specs.Prelude.{ℕ, ◌≡◌}
+use Rattle.refusals.specs.Numbers.{number_of}
 use Rattle.word.specs.declared.Frame.{Frame}
 use Rattle.turns.specs.Events.{sent}
 use Rattle.turns.specs.Scene.{Scene}
@@ -47,5 +48,5 @@ box_scene W k h s = record {
   Goes = λ x n f. (s n).out k ≡ sent x f;
   Passes = λ n b. PassedOn k b (h n) (s n).told;
   Drops = λ n. DroppedOn k (h n) (s n).told;
-  Refuses = λ n r. RefusedOn k r (h n) (s n).told;
+  Refuses = λ n r. RefusedOn k (number_of r) (h n) (s n).told;
 }

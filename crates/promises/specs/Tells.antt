@@ -1,6 +1,7 @@
 -- What may be told to each kind of input at all, what is written with it and when a frame goes out, where the inputs h come and s is given to each, in a wrapping W.
 -- Nothing here knows how the box works. Assumes nothing: these are definitions.
-use Rattle.std.specs.Prelude.{ℕ, ◌≡◌, ◌⊎◌, List, [], ◌∷◌}
+use Rattle.std.specs.Prelude.{ℕ, ◌≡◌, ◌⊎◌, List, [], ◌∷◌, map}
+use Rattle.refusals.specs.Numbers.{number_of}
 use Rattle.word.specs.declared.Frame.{Frame}
 use Rattle.turns.specs.declared.Talker.{Talker}
 use Rattle.turns.specs.Events as line
@@ -16,7 +17,7 @@ abbrev pub refusals : Wrapping → Input → List ℕ
 refusals W (tick room) = 15 ∷ []
 refusals W (thermostat l f) = 9 ∷ 5 ∷ 16 ∷ 6 ∷ []
 refusals W (boiler l f room) = 15 ∷ 9 ∷ 5 ∷ 16 ∷ 6 ∷ 7 ∷ 8 ∷ []
-refusals W (message bytes room) = 15 ∷ silences_of W
+refusals W (message bytes room) = 15 ∷ map number_of (silences_of W)
 
 -- what can be told to an input, and nothing else
 pub data May (W : Wrapping) : Input → BoxNote → Type 0 where

@@ -1,6 +1,7 @@
 -- Acceptance, in the box and on the line: an order on a line is an accepted message's, a message that is accepted asks one order, and its line
 -- accepts it.
 -- Assumes nothing.
+use Rattle.std.specs.Prelude.{Some, None}
 use Prim.Native.Nat.{ℕ, suc}
 use mathlib.Core.Path.{◌≡◌, refl, sym, ap, ap₂, ◌∙◌, subst}
 use mathlib.Core.Bool.{Bool, true, false, cond}
@@ -18,7 +19,6 @@ use Rattle.modbus.specs.declared.Reading.TheVariants as reading
 use Rattle.modbus.specs.Wrapping.{Wrapping, reads}
 use Rattle.modbus.specs.Lawful.{Lawful}
 use Rattle.promises.specs.declared.Asking.{Asking}
-use Rattle.promises.specs.declared.Asked.TheVariants.{Nothing, Waits}
 use Rattle.promises.specs.Box.{Gateway}
 use Rattle.promises.specs.Notes.{BoxNote, accepted, concern_of}
 use Rattle.promises.specs.Settle.{question_of}
@@ -43,7 +43,7 @@ record Orders (W : Wrapping) (k : ℕ) (w : Query) (x : Input) (g' : Gateway) (s
   pub taken : s.told ≡ accepted
   pub line : o.order.line ≡ k
   pub word : question_of o.order ≡ w
-  pub first : g'.asked ≡ Waits o
+  pub first : g'.asked ≡ Some o
 
 module _ (W : Wrapping) (g : Gateway) {k : ℕ} (f : Four k) (w : Query) where
   other : (e : Event) (b : Bool) → (e ≡ line.order w → ⊥) → cond b e line.pass ≡ line.order w → ⊥
@@ -75,7 +75,7 @@ module _ {W : Wrapping} (law : Lawful W) (h : Inputs) where
     pub accepted : Accepted (seen law h) i o
     pub line : o.order.line ≡ k
     pub word : question_of o.order ≡ w
-    pub first : under law h (suc i) ≡ Waits o
+    pub first : under law h (suc i) ≡ Some o
 
   pub order_on_lem : {k : ℕ} → Four k → (i : ℕ) (w : Query) → E law h k i ≡ line.order w → Begun k i w
   order_on_lem f i w e =
@@ -91,7 +91,7 @@ module _ {W : Wrapping} (law : Lawful W) (h : Inputs) where
   -- an order on line k that has no outcome is the one under way
   pub record Held (k i : ℕ) (w : Query) (n : ℕ) : Type 0 where
     pub begun : Begun k i w
-    pub waits : under law h n ≡ Waits begun.o
+    pub waits : under law h n ≡ Some begun.o
 
   pub held : {k : ℕ} → Four k → (n : ℕ) (u : UnderWay (sight (E law h k)) n) → Held k u.i u.w n
   held {k} f n u =
@@ -114,8 +114,8 @@ module _ {W : Wrapping} (law : Lawful W) (h : Inputs) where
   -- an accepted message's line accepts its order
   pub record Taken (i : ℕ) (o : Asking) : Type 0 where
     pub unit : Four o.order.line
-    pub free : under law h i ≡ Nothing
-    pub first : under law h (suc i) ≡ Waits o
+    pub free : under law h i ≡ None
+    pub first : under law h (suc i) ≡ Some o
     pub there : Accepted (sight (E law h o.order.line)) i (question_of o.order)
 
   pub taken_on : (i : ℕ) (o : Asking) → Accepted (seen law h) i o → Taken i o
@@ -130,10 +130,10 @@ module _ {W : Wrapping} (law : Lawful W) (h : Inputs) where
           ∙ ap (λ (b : Bool). cond b (line.order (question_of o.order)) line.pass) (eq-eqb o.order.line o.order.line refl)
 
       -- no line of the box is asked twice
-      not_twice : under law h i ≡ Nothing → UnderWay (sight (E law h o.order.line)) i → ⊥
-      not_twice free u = let b = held unit i u in let e : Nothing ≡ Waits b.begun.o = sym free ∙ b.waits in clash cc
+      not_twice : under law h i ≡ None → UnderWay (sight (E law h o.order.line)) i → ⊥
+      not_twice free u = let b = held unit i u in let e : None ≡ Some b.begun.o = sym free ∙ b.waits in clash cc
 
-      ready : under law h i ≡ Nothing → OrderTold (sight (E law h o.order.line)) i (question_of o.order) → S law h o.order.line i ≡ line.accepted
+      ready : under law h i ≡ None → OrderTold (sight (E law h o.order.line)) i (question_of o.order) → S law h o.order.line i ≡ line.accepted
       ready free (taken e has none) = e
       ready free (lacking e l) =
           let x = has_status W (box_at W h i) o (h i) acc.asked acc.taken in
@@ -145,7 +145,7 @@ module _ {W : Wrapping} (law : Lawful W) (h : Inputs) where
       go (begins p was is ask t) = record {
         unit = unit;
         free = was;
-        first = under_next law h i ∙ is ∙ ap Waits (one_order o p (h i) acc.asked ask);
+        first = under_next law h i ∙ is ∙ ap Some (one_order o p (h i) acc.asked ask);
         there = record {
           asked = asked;
           taken = ready was ((on_line law h o.order.line).ready i (question_of o.order) asked);

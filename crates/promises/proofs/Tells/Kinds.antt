@@ -1,13 +1,17 @@
 -- What is told to an input is of its kind, and refused with one of its numbers.
 -- Assumes nothing.
+use Rattle.std.specs.Prelude.{Option, Some, None}
+use Rattle.modbus.specs.declared.Reply.{Reply}
 use Prim.Native.Nat.{ℕ}
 use mathlib.Core.Path.{◌≡◌, refl, sym, ap, ◌∙◌, subst, subst⁻¹}
 use mathlib.Core.Logic.{inl, inr, ⊎_elim}
 use mathlib.Core.Bool.{Bool, true, false, cond}
-use mathlib.Core.List.{List, [], ◌∷◌}
+use mathlib.Core.List.{List, [], ◌∷◌, map}
 use lib.ListN.{length}
 use borrow.Author.Tests.{leb-true}
 use Rattle.word.proofs.Clash.{clash}
+use Rattle.refusals.specs.declared.Refusal.{Refusal}
+use Rattle.refusals.specs.Numbers as numbers
 use Rattle.word.specs.declared.Frame.{Frame}
 use Rattle.word.specs.Checks.{Check, Fails, here, later, Passes, all}
 use Rattle.word.proofs.Checks.{either}
@@ -17,14 +21,10 @@ use Rattle.modbus.specs.declared.Order.{Order}
 use Rattle.modbus.specs.Outcomes.{lacking_of}
 use Rattle.modbus.specs.declared.Reading.{Reading}
 use Rattle.modbus.specs.declared.Reading.TheVariants as reading
-use Rattle.modbus.specs.Wrapping.{Wrapping, reads}
+use Rattle.modbus.specs.Wrapping.{Wrapping, reads, silences_of}
 use Rattle.modbus.specs.Lawful.{Among, Lawful}
 use Rattle.modbus.proofs.Messages.{silent}
 use Rattle.promises.specs.declared.Asking.{Asking}
-use Rattle.promises.specs.declared.Asked.{Asked}
-use Rattle.promises.specs.declared.Asked.TheVariants.{Nothing, Waits}
-use Rattle.promises.specs.declared.Settled.{Settled}
-use Rattle.promises.specs.declared.Settled.TheVariants.{Open, Came}
 use Rattle.promises.specs.Box.{Gateway, Moved, Ticked, Steps}
 use Rattle.promises.specs.Notes.{BoxNote, passed, refused, box_note_of}
 use Rattle.promises.specs.Four.{line_of, ticks_of}
@@ -48,40 +48,47 @@ use Rattle.promises.proofs.Refused.{demand1, held_where}
 
 -- ---- the numbers
 
-abbrev numbers_of : List Check → List ℕ
+abbrev numbers_of : List (Check Refusal) → List ℕ
 numbers_of [] = []
-numbers_of (c ∷ cs) = c.number ∷ numbers_of cs
+numbers_of (c ∷ cs) = numbers.number_of c.number ∷ numbers_of cs
 
 -- the number of a test that fails is one of the list's
-among : {cs : List Check} {n : ℕ} → Fails cs n → Among (numbers_of cs) n
+among : {cs : List (Check Refusal)} {n : Refusal} → Fails cs n → Among (numbers_of cs) (numbers.number_of n)
 among (here e) = inl refl
 among (later e f) = inr (among f)
 
+-- and so is the number of one of a list of refusals
+mapped : (rs : List Refusal) (r : Refusal) → Among rs r → Among (map numbers.number_of rs) (numbers.number_of r)
+mapped [] r x = x
+mapped (s ∷ rs) r (inl e) = inl (ap numbers.number_of e)
+mapped (s ∷ rs) r (inr x) = inr (mapped rs r x)
+
 module _ {W : Wrapping} (law : Lawful W) (g : Gateway) where
-  of_message : (b : List ℕ) (room n : ℕ) (r : Reading) → reads W b ≡ r → Fails (roomy room ∷ silences r) n → Among (refusals W (message b room)) n
+  of_message : (b : List ℕ) (room : ℕ) (n : Refusal) (r : Reading) → reads W b ≡ r → Fails (roomy room ∷ silences r) n →
+      Among (refusals W (message b room)) (numbers.number_of n)
   of_message b room n r q (here e) = inl refl
-  of_message b room n (reading.Silent m) q (later e (here off)) = inr (silent law b m q)
+  of_message b room n (reading.Silent m) q (later e (here off)) = inr (mapped (silences_of W) n (silent law b m q))
   of_message b room n (reading.Silent m) q (later e (later on fails)) = clash cc
   of_message b room n (reading.AtOnce r) q (later e x) = elim x [ ]
   of_message b room n (reading.Accepted o) q (later e x) = elim x [ ]
 
-  number_of : (x : Input) (n : ℕ) → Fails (checks_of W g x) n → Among (refusals W x) n
-  number_of (tick room) n fails = among fails
-  number_of (thermostat l f) n fails = among fails
-  number_of (boiler l f room) n fails = among fails
-  number_of (message b room) n fails = of_message b room n (reads W b) refl fails
+  number_among : (x : Input) (n : Refusal) → Fails (checks_of W g x) n → Among (refusals W x) (numbers.number_of n)
+  number_among (tick room) n fails = among fails
+  number_among (thermostat l f) n fails = among fails
+  number_among (boiler l f room) n fails = among fails
+  number_among (message b room) n fails = of_message b room n (reads W b) refl fails
 
   -- ---- what else is told to each kind
 
-  tick_may : (room : ℕ) (s : Steps) (e : Settled) → May W (tick room) (box_note_of (ticked_of W g s e).result.told)
+  tick_may : (room : ℕ) (s : Steps) (e : Option (ℕ × Reply × ℕ)) → May W (tick room) (box_note_of (ticked_of W g s e).result.told)
   unfolding tell_of
-  tick_may room s Open = tick_quiet
-  tick_may room s (Came t r n) = tick_ends
+  tick_may room s None = tick_quiet
+  tick_may room s (Some (t, r, n)) = tick_ends
 
-  asked_may : (b : List ℕ) (room : ℕ) (o : Asking) (a : Asked) → May W (message b room) (box_note_of (asked_of W g a o).result.told)
+  asked_may : (b : List ℕ) (room : ℕ) (o : Asking) (a : Option Asking) → May W (message b room) (box_note_of (asked_of W g a o).result.told)
   unfolding taken_of replied
-  asked_may b room o Nothing = message_taken
-  asked_may b room o (Waits p) = message_replied
+  asked_may b room o None = message_taken
+  asked_may b room o (Some p) = message_replied
 
   read_may : (b : List ℕ) (room : ℕ) (r : Reading) → Passes (roomy room ∷ silences r) → May W (message b room) (box_note_of (read_of W g (W.transaction b) r).result.told)
   unfolding read_of replied asks_of
@@ -102,7 +109,7 @@ boiler_may : {W : Wrapping} {e : Event} {s : line.Note} → Speech e s → (l : 
 boiler_may {W} (answer x w) l f room c t is q off = subst⁻¹ (May W (boiler l f room)) q boiler_ends
 boiler_may {W} (passes x) l f room c t is q off = let same : x ≡ f = cc in subst⁻¹ (May W (boiler l f room)) (q ∙ ap passed same) boiler_passed
 boiler_may {W} drops l f room c t is q off = subst⁻¹ (May W (boiler l f room)) q boiler_dropped
-boiler_may {W} (unheard n) l f room c t is q off = absurd (off n q)
+boiler_may {W} (unheard n) l f room c t is q off = absurd (off (numbers.number_of n) q)
 boiler_may {W} none l f room c t is q off = clash cc
 boiler_may {W} silently l f room c t is q off = clash cc
 boiler_may {W} (sent x y) l f room c t is q off = clash cc
@@ -139,5 +146,5 @@ module _ {W : Wrapping} (law : Lawful W) (h : Inputs) (k : ℕ) where
   pub may : May W (h k) (given W h k).told
   may =
       ⊎_elim
-      (λ d. subst⁻¹ (May W (h k)) ((demand1 W g).each (h k) d.0 d.1).number (refuses (number_of law g (h k) d.0 d.1)))
+      (λ d. subst⁻¹ (May W (h k)) ((demand1 W g).each (h k) d.0 d.1).number (refuses (number_among law g (h k) d.0 d.1)))
       (passed_may (h k) refl) (either (checks_of W g (h k)))

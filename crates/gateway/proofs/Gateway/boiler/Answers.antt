@@ -32,5 +32,5 @@ returns c =
       ← c.after_boiler-settled.ensures,
       ← c.plain.ensures,
       ← c.tell-told.ensures.0,
-      ← c.still-after.ensures,
+      ← c.still-self.ensures,
     ) (refl, c.tell-told.ensures.1)

@@ -1,6 +1,6 @@
 -- `gateway::Gateway::message` meets its contract: an order that its line takes, or what is said at once.
 -- Assumes nothing.
-use Rattle.std.proofs.Common.{◌≡◌, refl, sym, ap, ◌∙◌, length, rules}
+use Rattle.std.proofs.Common.{◌≡◌, not, refl, sym, ap, ◌∙◌, length, rules}
 use borrow.Author.Tests.{le-leb}
 use Rattle.promises.specs.Four.{place_of}
 use Rattle.promises.specs.Entries.{message_of, read_of, taken_of}
@@ -11,13 +11,13 @@ use Rattle.modbus.proofs.Wrapping.{lawful}
 use Rattle.promises.proofs.Numbers.{four_of_lem}
 use Rattle.gateway.specs.Reads.{box_of, line_asked, able_of}
 use Rattle.gateway.proofs.Index.{unmapped, whole, own_line, stored}
-use Rattle.gateway.proofs.Unasked.{said_at_once, while_busy, waiting, no_order, unaccepted, an_order, was_asked, able_at}
-use Rattle.gateway.proofs.Gateway.message.Goals.{in-Accepted+in_default-asked, in_default}
+use Rattle.gateway.proofs.Unasked.{said_at_once, while_busy, free, no_order, unaccepted, an_order, was_asked, able_at}
+use Rattle.gateway.proofs.Gateway.message.Goals.{in-Accepted+else-is_none, in_default}
 use Rattle.gateway.proofs.Gateway.message.Goals as goal
 
-pub returns-in-Nothing : goal.returns-in-Nothing
+pub returns-then-is_none : goal.returns-then-is_none
 unfolding message_of read_of taken_of
-returns-in-Nothing c =
+returns-then-is_none c =
     let a = c.args in
     let l = a.self.lines in
     let four : length l ≡ 4 = search (rules, unmapped) in
@@ -36,7 +36,7 @@ returns-in-Nothing c =
       le-leb _ _ c.if-room-lt-ROOM.false,
       ← asks.ensures,
       ← c.transaction-transaction.ensures,
-      an_order W t g asks.result _ is c.in-Nothing.is,
+      an_order W t g asks.result _ is (free _ (c.is_none.ensures ∙ ap not c.if-is_none.true)),
       ← c.question_of.ensures,
       ← (own_line l i _ here),
       ← order.ensures,
@@ -59,10 +59,10 @@ returns c =
     let come = c.match-reading in
     let told = c.at_once-told in
     let same : come.reading ≡ able_of g.lines asks.result =
-    elim come.branch [ in-Accepted+in_default-asked w ↦ w.reading-is ∙ sym w.in-Accepted.is ∙ able | in_default w ↦ w.reading-is ∙ able ] in
+    elim come.branch [ in-Accepted+else-is_none w ↦ w.reading-is ∙ sym w.in-Accepted.is ∙ able | in_default w ↦ w.reading-is ∙ able ] in
     let law : read_of W g t asks.result ≡ said_at_once W t g (able_of g.lines asks.result) =
     elim come.branch [
-      | in-Accepted+in_default-asked w ↦ while_busy W t g asks.result (waiting _ _ w.in_default-asked.is)
+      | in-Accepted+else-is_none w ↦ while_busy W t g asks.result (w.is_none.ensures ∙ ap not w.if-is_none.false)
       | in_default w ↦ no_order W t g asks.result (rw (← able) (unaccepted _ w.in_default.not-Accepted))
     ] in
     rw (le-leb _ _ c.if-room-lt-ROOM.false, ← asks.ensures, ← c.transaction-transaction.ensures, law, ← same) (

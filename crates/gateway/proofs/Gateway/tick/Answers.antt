@@ -28,7 +28,7 @@ loop-i-preserved c =
         (
           length-set at.self.lines at.i w.tick-step.result.line ∙ at.invariant.1.0,
           (
-            length-set at.saids at.i (record { said = w.tick-step.result.said }) ∙ at.invariant.1.1.0,
+            length-set at.saids at.i w.tick-step.result.said ∙ at.invariant.1.1.0,
             (omega (arith, h), at.invariant.1.1.1.1),
           ),
         ),

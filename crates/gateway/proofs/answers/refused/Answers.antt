@@ -8,4 +8,4 @@ pub returns : goal.returns
 returns c =
     let l = c.args.gateway.lines in
     let four : length l ≡ 4 = search (rules, unmapped) in
-    rw (← (whole l four))
+    rw (← (whole l four), ← c.number.ensures)
