@@ -1,8 +1,6 @@
 -- Laws of a script's lines.
-mod Both
-mod Numbers
-mod Fields
-mod Bytes
-mod Said
 mod Determined
 mod Example
+mod Numbers
+mod Bytes
+mod Fields

@@ -8,18 +8,14 @@
 --     fresh tcp
 -- An empty line and one that begins with `#` are skipped. Any other line is wrong.
 -- Assumes nothing: these are definitions.
-use Rattle.std.specs.Prelude.{ℕ, ◌/◌, Bool, true, false, cond, ◌&&◌, List, [], ◌∷◌, ◌++◌, ltb, eqb, length, drop}
+use Rattle.std.specs.Prelude.{ℕ, Bool, ◌||◌, if◌then◌else◌, List, [], ◌∷◌, ◌++◌, nat_eq, ◌==◌, length, drop, codes, bytes_eq, Option, Some, None}
+use Rattle.std.specs.List.{starts_with}
+use Rattle.std.specs.Option.{option_map_or, option_zip}
 use Rattle.word.specs.declared.Frame.{Frame}
 use Rattle.modbus.specs.declared.MessageForm.TheVariants.{Serial, Tcp}
 use Rattle.script.specs.declared.Event.{Event}
 use Rattle.script.specs.declared.Event.TheVariants.{Skip, Wrong, Ticks, Thermostat, Boiler, Message, Room, Fresh}
-use Rattle.script.specs.declared.decimal.Byte.{Byte}
-use Rattle.script.specs.declared.decimal.Byte.TheVariants as byte
-use Rattle.script.specs.declared.decimal.Number.{Number}
-use Rattle.script.specs.declared.decimal.Number.TheVariants as number
-use Rattle.script.specs.declared.frames.Framing.{Framing}
-use Rattle.script.specs.declared.frames.Framing.TheVariants as framing
-use Rattle.script.specs.Digits.{bounded_of, fits, pairs_of}
+use Rattle.script.specs.Digits.{bounded_of, fitting}
 use Rattle.script.specs.Frames.{first_of, rest_of, framing_of}
 
 -- what a line says, and the bytes of its message
@@ -35,97 +31,82 @@ without_bytes e = record { event = e; bytes = [] }
 abbrev pub placed : List ℕ → List ℕ → List ℕ
 placed b room = b ++ drop (length b) room
 
-unfoldable pub begins : List ℕ → List ℕ → Bool
-begins [] s = true
-begins (b ∷ w) [] = false
-begins (b ∷ w) (c ∷ s) = eqb c b && begins w s
+abbrev pub begins : List ℕ → List ℕ → Bool
+begins w s = starts_with nat_eq s w
 
-abbrev pub ticked_by : Number → Event
-ticked_by (number.Value n) = cond (eqb n 0) Wrong (Ticks n)
-ticked_by number.Nothing = Wrong
+abbrev pub ticked_by : Option ℕ → Event
+ticked_by (Some n) = if n == 0 then Wrong else Ticks n
+ticked_by None = Wrong
 
 unfoldable pub tick_line : List ℕ → Event
 tick_line s = ticked_by (bounded_of 4294967295 s)
 
-abbrev pub lent : Number → Event
-lent (number.Value n) = Room n
-lent number.Nothing = Wrong
-
 unfoldable pub room_line : List ℕ → Event
-room_line s = lent (bounded_of 300 s)
-
--- of the boiler, or of the thermostat
-abbrev pub from : Bool → ℕ → Frame → Event
-from true n f = Boiler n f
-from false n f = Thermostat n f
-
-abbrev pub framed_by : Byte → Framing → Bool → Event
-framed_by byte.Nothing f boiler = Wrong
-framed_by (byte.Of n) framing.Nothing boiler = Wrong
-framed_by (byte.Of n) (framing.Of f) boiler = from boiler n f
+room_line s = option_map_or Room (bounded_of 300 s) Wrong
 
 -- a line's number, and a frame
-unfoldable pub frame_line : Bool → List ℕ → Event
-frame_line boiler s = framed_by (first_of s) (framing_of (rest_of s)) boiler
+abbrev pub numbered_of : List ℕ → Option (ℕ × Frame)
+numbered_of s = option_zip (first_of s) (framing_of (rest_of s))
+
+-- of the boiler or of the thermostat, as the event is made
+unfoldable pub frame_line : (ℕ → Frame → Event) → List ℕ → Event
+frame_line event s = option_map_or (λ p. event p.0 p.1) (numbered_of s) Wrong
+
+abbrev pub said : Option (List ℕ) → Read
+said (Some (b ∷ s)) = record { event = Message (length (b ∷ s)); bytes = b ∷ s }
+said (Some []) = without_bytes Wrong
+said None = without_bytes Wrong
 
 -- one byte or more, as many as a room of n bytes holds
 unfoldable pub message_line : ℕ → List ℕ → Read
-message_line n s = cond (ltb 0 (length s) && fits n s) (record { event = Message (length s / 2); bytes = pairs_of s }) (without_bytes Wrong)
+message_line n s = said (fitting n s)
 
--- `#`
 abbrev pub note : List ℕ
-note = 35 ∷ []
+note = codes "#"
 
--- `tick `
 abbrev pub tick : List ℕ
-tick = 116 ∷ 105 ∷ 99 ∷ 107 ∷ 32 ∷ []
+tick = codes "tick "
 
--- `thermostat `
 abbrev pub thermostat : List ℕ
-thermostat = 116 ∷ 104 ∷ 101 ∷ 114 ∷ 109 ∷ 111 ∷ 115 ∷ 116 ∷ 97 ∷ 116 ∷ 32 ∷ []
+thermostat = codes "thermostat "
 
--- `boiler `
 abbrev pub boiler : List ℕ
-boiler = 98 ∷ 111 ∷ 105 ∷ 108 ∷ 101 ∷ 114 ∷ 32 ∷ []
+boiler = codes "boiler "
 
--- `room `
 abbrev pub room : List ℕ
-room = 114 ∷ 111 ∷ 111 ∷ 109 ∷ 32 ∷ []
+room = codes "room "
 
--- `modbus`
 abbrev pub modbus : List ℕ
-modbus = 109 ∷ 111 ∷ 100 ∷ 98 ∷ 117 ∷ 115 ∷ []
+modbus = codes "modbus"
 
--- `fresh serial`
 abbrev pub fresh_serial : List ℕ
-fresh_serial = 102 ∷ 114 ∷ 101 ∷ 115 ∷ 104 ∷ 32 ∷ 115 ∷ 101 ∷ 114 ∷ 105 ∷ 97 ∷ 108 ∷ []
+fresh_serial = codes "fresh serial"
 
--- `fresh tcp`
 abbrev pub fresh_tcp : List ℕ
-fresh_tcp = 102 ∷ 114 ∷ 101 ∷ 115 ∷ 104 ∷ 32 ∷ 116 ∷ 99 ∷ 112 ∷ []
-
-unfoldable pub is_line : List ℕ → List ℕ → Bool
-is_line w s = eqb (length s) (length w) && begins w s
+fresh_tcp = codes "fresh tcp"
 
 -- a message of no bytes, or a new box; any other line is wrong
 unfoldable pub alone_of : List ℕ → Event
 alone_of s =
-    cond (is_line modbus s) (Message 0)
-    (cond (is_line fresh_serial s) (Fresh Serial)
-    (cond (is_line fresh_tcp s) (Fresh Tcp)
-    Wrong))
+    if bytes_eq s modbus then Message 0
+    else if bytes_eq s fresh_serial then Fresh Serial
+    else if bytes_eq s fresh_tcp then Fresh Tcp
+    else Wrong
 
 -- a line that has no bytes of a message, its end left out
 unfoldable pub plain_line : List ℕ → Event
 plain_line s =
-    cond (eqb (length s) 0) Skip
-    (cond (begins note s) Skip
-    (cond (begins tick s) (tick_line (drop 5 s))
-    (cond (begins thermostat s) (frame_line false (drop 11 s))
-    (cond (begins boiler s) (frame_line true (drop 7 s))
-    (cond (begins room s) (room_line (drop 5 s))
-    (alone_of s))))))
+    if length s == 0 || begins note s then Skip
+    else if begins tick s then tick_line (drop (length tick) s)
+    else if begins thermostat s then frame_line Thermostat (drop (length thermostat) s)
+    else if begins boiler s then frame_line Boiler (drop (length boiler) s)
+    else if begins room s then room_line (drop (length room) s)
+    else alone_of s
+
+-- `modbus `
+abbrev pub message : List ℕ
+message = codes "modbus "
 
 -- a whole line; there is room for n bytes of a message
 unfoldable pub script_line : ℕ → List ℕ → Read
-script_line n s = cond (begins (modbus ++ (32 ∷ [])) s) (message_line n (drop 7 s)) (without_bytes (plain_line s))
+script_line n s = if begins message s then message_line n (drop (length message) s) else without_bytes (plain_line s)

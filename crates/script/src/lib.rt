@@ -5,28 +5,14 @@ mod decimal;
 mod frames;
 mod pairs;
 
-ghost use Rattle.std.specs.Prelude.{◌≡◌, ◌≤◌, length};
-ghost use Rattle.script.specs.Digits.{hex_word_of};
-ghost use Rattle.script.specs.Frames.{end_of};
-ghost use Rattle.script.specs.Lines.{
-  begins as begins_of,
-  tick_line,
-  room_line,
-  from as from_of,
-  frame_line,
-  placed,
-  message_line,
-  is_line,
-  alone_of,
-  plain_line,
-  script_line,
-};
+ghost use Rattle.std.specs.Prelude.{◌≡◌, length, MatchOption};
+ghost use Rattle.script.specs.declared.Event.TheVariants.{Wrong};
+ghost use Rattle.script.specs.Lines.{tick_line, room_line, numbered_of, placed, message_line, alone_of, plain_line, script_line};
 
-use decimal::{Byte, Number, number_of};
-use frames::{Framing, first, frame_of, rest};
+use decimal::number_of;
+use frames::{first, frame_of, rest};
 use modbus::MessageForm;
 use pairs::pairs;
-use places::word_at;
 use word::Frame;
 
 // What a line of the script says. The bytes of a message stand in the room that was lent for them.
@@ -42,130 +28,44 @@ pub enum Event {
     Fresh(MessageForm),
 }
 
-// A word of eight hexadecimal digits.
-#[derive(Clone, Copy)]
-enum Hex {
-    Word(u32),
-    Nothing,
-}
-
-// Whether the line begins with these bytes.
-fn begins(line: &[u8], with: &[u8]) -> bool
-    ensures { result ≡ begins_of with.now line.now }
-{
-    if line.len() < with.len() {
-        return false;
-    }
-    let mut i = 0;
-    while i < with.len() {
-        if line[i] != with[i] {
-            return false;
-        }
-        i += 1;
-    }
-    true
-}
-
-// The end of the first field: the place of the first space, or the end of all.
-fn field_end(s: &[u8]) -> usize
-    ensures { (result ≡ end_of s.now) × (result ≤ length s.now) }
-{
-    let mut at = 0;
-    while at < s.len() {
-        if s[at] == b' ' {
-            return at;
-        }
-        at += 1;
-    }
-    at
-}
-
-#[tactic(auto, unfolding(crate::specs::Digits::hex_word_of))]
-fn word(s: &[u8]) -> Hex
-    ensures { result ≡ hex_word_of s.now }
-{
-    if s.len() != 8 {
-        return Hex::Nothing;
-    }
-    let mut bytes = [0u8; 4];
-    if !pairs(s, &mut bytes) {
-        return Hex::Nothing;
-    }
-    Hex::Word(word_at(&bytes, 0))
-}
-
 #[tactic(auto, unfolding(crate::specs::Lines::tick_line))]
 fn ticks(s: &[u8]) -> Event
     ensures { result ≡ tick_line s.now }
 {
-    let Number::Value(n) = number_of(s, 4294967295) else {
-        return Event::Wrong;
-    };
-    if n == 0 {
-        return Event::Wrong;
+    match number_of(s, u32::MAX) {
+        None | Some(0) => Event::Wrong,
+        Some(n) => Event::Ticks(n),
     }
-    Event::Ticks(n)
 }
 
 #[tactic(auto, unfolding(crate::specs::Lines::room_line))]
 fn room(s: &[u8]) -> Event
     ensures { result ≡ room_line s.now }
 {
-    let Number::Value(n) = number_of(s, 300) else {
-        return Event::Wrong;
-    };
-    Event::Room(n as usize)
+    number_of(s, 300).map_or(Event::Wrong, |n| Event::Room(n as usize))
 }
 
-// Of the boiler, or of the thermostat.
-fn from(boiler: bool, n: u8, f: Frame) -> Event
-    ensures { result ≡ from_of boiler n f }
+// A line's number and a frame: of the boiler or of the thermostat, as `event` makes it.
+fn frame<F: FnOnce(u8, Frame) -> Event>(s: &[u8], event: F) -> Event
+    requires { F.IsAlwaysCallable event }
+    ensures { MatchOption (numbered_of s.now) (result ≡ Wrong) (λ p. F.post event p.0 p.1 result) }
 {
-    if boiler {
-        Event::Boiler(n, f)
-    } else {
-        Event::Thermostat(n, f)
+    match first(s).zip(frame_of(rest(s))) {
+        Some((n, f)) => event(n, f),
+        None => Event::Wrong,
     }
-}
-
-// A line's number and a frame.
-#[tactic(auto, unfolding(crate::specs::Lines::frame_line))]
-fn frame(s: &[u8], boiler: bool) -> Event
-    ensures { result ≡ frame_line boiler s.now }
-{
-    let Byte::Of(n) = first(s) else {
-        return Event::Wrong;
-    };
-    let at = rest(s);
-    let Framing::Of(f) = frame_of(&s[at..]) else {
-        return Event::Wrong;
-    };
-    from(boiler, n, f)
 }
 
 // The bytes of a message: a pair of digits or more.
+#[tactic(auto, unfolding(crate::specs::Lines::message_line))]
 fn message(s: &[u8], bytes: &mut [u8]) -> Event
-    ensures { (result ≡ (message_line (length bytes.old) s.now).event)
-        × (bytes.new ≡ placed (message_line (length bytes.old) s.now).bytes bytes.old) }
+    ensures event { result ≡ (message_line (length bytes.old) s.now).event }
+    ensures written { bytes.new ≡ placed (message_line (length bytes.old) s.now).bytes bytes.old }
 {
-    if s.len() == 0 {
-        return Event::Wrong;
+    match pairs(s, bytes) {
+        None | Some(0) => Event::Wrong,
+        Some(count) => Event::Message(count),
     }
-    if !pairs(s, bytes) {
-        return Event::Wrong;
-    }
-    Event::Message(s.len() / 2)
-}
-
-// Whether the line is these bytes.
-#[tactic(auto, unfolding(crate::specs::Lines::is_line))]
-fn whole(line: &[u8], bytes: &[u8]) -> bool
-    ensures { result ≡ is_line bytes.now line.now }
-{
-    if line.len() != bytes.len() {
-        return false;
-    }
-    begins(line, bytes)
 }
 
 // A line without a field that can differ: a message of no bytes, or a new box; any other is wrong.
@@ -173,51 +73,46 @@ fn whole(line: &[u8], bytes: &[u8]) -> bool
 fn alone(line: &[u8]) -> Event
     ensures { result ≡ alone_of line.now }
 {
-    if whole(line, b"modbus") {
-        return Event::Message(0);
+    // A match on the three texts would be plainer; of its arms a proof knows the lengths alone.
+    if line == b"modbus".as_slice() {
+        Event::Message(0)
+    } else if line == b"fresh serial".as_slice() {
+        Event::Fresh(MessageForm::Serial)
+    } else if line == b"fresh tcp".as_slice() {
+        Event::Fresh(MessageForm::Tcp)
+    } else {
+        Event::Wrong
     }
-    if whole(line, b"fresh serial") {
-        return Event::Fresh(MessageForm::Serial);
-    }
-    if whole(line, b"fresh tcp") {
-        return Event::Fresh(MessageForm::Tcp);
-    }
-    Event::Wrong
 }
 
 // A line that lends no bytes to a message.
-#[tactic(auto, unfolding(crate::specs::Lines::plain_line))]
+#[tactic(auto, unfolding(crate::specs::Lines::plain_line, crate::specs::Lines::frame_line))]
 fn plain(line: &[u8]) -> Event
     ensures { result ≡ plain_line line.now }
 {
-    if line.len() == 0 {
-        return Event::Skip;
+    if line.is_empty() || line.starts_with(b"#") {
+        Event::Skip
+    } else if let Some(rest) = line.strip_prefix(b"tick ") {
+        ticks(rest)
+    } else if let Some(rest) = line.strip_prefix(b"thermostat ") {
+        frame(rest, Event::Thermostat)
+    } else if let Some(rest) = line.strip_prefix(b"boiler ") {
+        frame(rest, Event::Boiler)
+    } else if let Some(rest) = line.strip_prefix(b"room ") {
+        room(rest)
+    } else {
+        alone(line)
     }
-    if begins(line, b"#") {
-        return Event::Skip;
-    }
-    if begins(line, b"tick ") {
-        return ticks(&line[5..]);
-    }
-    if begins(line, b"thermostat ") {
-        return frame(&line[11..], false);
-    }
-    if begins(line, b"boiler ") {
-        return frame(&line[7..], true);
-    }
-    if begins(line, b"room ") {
-        return room(&line[5..]);
-    }
-    alone(line)
 }
 
 // A whole line, its end left out.
+#[tactic(auto, unfolding(crate::specs::Lines::script_line))]
 pub fn event_of(line: &[u8], bytes: &mut [u8]) -> Event
     ensures { (result ≡ (script_line (length bytes.old) line.now).event)
         × (bytes.new ≡ placed (script_line (length bytes.old) line.now).bytes bytes.old) }
 {
-    if begins(line, b"modbus ") {
-        return message(&line[7..], bytes);
+    match line.strip_prefix(b"modbus ") {
+        Some(digits) => message(digits, bytes),
+        None => plain(line),
     }
-    plain(line)
 }

@@ -1,76 +1,54 @@
 // Pairs of hexadecimal digits, capital or small, read into bytes.
-ghost use Rattle.std.specs.Prelude.{true, ◌≡◌, ◌+◌, ◌*◌, ◌<◌, length, get_or};
-ghost use Rattle.script.specs.Digits.{digit_of, all_hex, pairs_of, fits, fitting};
+ghost use Rattle.std.specs.Prelude.{◌≡◌, ◌<◌, [], length, IsSome, IfSome, option_map, unwrap_or};
+ghost use Rattle.script.specs.Digits.{digit_of, pair_of, fitting, hex_word_of};
 ghost use Rattle.script.specs.Lines.{placed};
 
-// The value of a digit; 16 for any other byte.
+use places::word_at;
+
+// The value of a digit.
 #[tactic(auto, unfolding(crate::specs::Digits::digit_of))]
-fn digit(b: u8) -> u8
-    ensures { result ≡ digit_of b }
+fn digit(b: u8) -> Option<u8>
+    ensures value { result ≡ digit_of b }
+    ensures bound { IfSome result (λ d. d < 16) }
 {
-    if b < b'0' {
-        return 16;
-    }
-    if b <= b'9' {
-        return b - b'0';
-    }
-    if b < b'A' {
-        return 16;
-    }
-    if b <= b'F' {
-        return b - b'A' + 10;
-    }
-    if b < b'a' {
-        return 16;
-    }
-    if b <= b'f' {
-        return b - b'a' + 10;
-    }
-    16
+    char::from(b).to_digit(16).map(|d| d as u8)
 }
 
-// Whether each byte is a digit.
-fn all_hex(s: &[u8]) -> bool
-    ensures { result ≡ all_hex s.now }
+// The byte of two digits.
+fn pair(high: u8, low: u8) -> u8
+    requires high { IsSome (digit_of high) }
+    requires low { IsSome (digit_of low) }
+    ensures { result ≡ pair_of high low }
 {
-    let mut i = 0;
-    while i < s.len() {
-        if 15 < digit(s[i]) {
-            return false;
-        }
-        i += 1;
-    }
-    true
+    digit(high).unwrap() * 16 + digit(low).unwrap()
 }
 
-// The byte of one pair.
-fn pair(s: &[u8], i: usize) -> u8
-    requires { (i * 2 + 1 < length s.now) × (all_hex s.now ≡ true) }
-    ensures { result ≡ get_or (pairs_of s.now) i 0 }
+// The bytes in front of a room, if these are pairs of digits and the room has so many, and their number; else nothing is written.
+#[tactic(auto, unfolding(crate::specs::Digits::fitting, crate::specs::Digits::fits))]
+pub(crate) fn pairs(s: &[u8], room: &mut [u8]) -> Option<usize>
+    ensures count { result ≡ option_map (λ b. length b) (fitting (length room.old) s.now) }
+    ensures written { room.new ≡ placed (unwrap_or (fitting (length room.old) s.now) []) room.old }
 {
-    digit(s[i * 2]) * 16 + digit(s[i * 2 + 1])
-}
-
-// The bytes in front of a room, if these are pairs of digits and the room has so many; else nothing is written.
-#[tactic(auto, unfolding(crate::specs::Digits::fits))]
-pub(crate) fn pairs(s: &[u8], room: &mut [u8]) -> bool
-    ensures { (result ≡ fits (length room.old) s.now)
-        × (room.new ≡ placed (fitting (length room.old) s.now) room.old) }
-{
-    if s.len() % 2 != 0 {
-        return false;
-    }
     let count = s.len() / 2;
-    if room.len() < count {
-        return false;
+    if s.len() % 2 != 0 || room.len() < count || !s.iter().all(|&b| digit(b).is_some()) {
+        return None;
     }
-    if !all_hex(s) {
-        return false;
+    // `room.iter_mut()` beside the chunks would need no index; a proof knows nothing of what is written through it.
+    for (i, digits) in s.chunks_exact(2).enumerate() {
+        room[i] = pair(digits[0], digits[1]);
     }
-    let mut i = 0;
-    while i < count {
-        room[i] = pair(s, i);
-        i += 1;
+    Some(count)
+}
+
+// A word of eight digits.
+#[tactic(auto, unfolding(crate::specs::Digits::hex_word_of))]
+pub(crate) fn word(s: &[u8]) -> Option<u32>
+    ensures { result ≡ hex_word_of s.now }
+{
+    if s.len() != 8 {
+        return None;
     }
-    true
+    let mut bytes = [0; 4];
+    pairs(s, &mut bytes)?;
+    Some(word_at(&bytes, 0))
 }

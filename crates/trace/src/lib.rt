@@ -9,8 +9,9 @@ use promises::Told;
 use text::Text;
 use word::Frame;
 
-// A line's beginning: the time, a word, and the number of a line of the box.
-#[tactic(auto, unfolding(crate::specs::Lines::on_line))]
+// A line's beginning: the time, a word, and the number of a line of the box. They go through three functions as the definitions have them; a struct
+// of the three would be no plainer.
+#[tactic(auto, using(text::proofs::Puts::puts_append), unfolding(crate::specs::Lines::on_line, text::specs::Text::puts))]
 fn on_line(time: u64, word: &[u8], line: u8) -> Text
     ensures { result ≡ puts empty_text (on_line time word.now line) }
 {
@@ -22,26 +23,24 @@ fn on_line(time: u64, word: &[u8], line: u8) -> Text
 fn unmeasured(frame: Frame) -> bool
     ensures { result ≡ unmeasured_of frame }
 {
-    if frame.shortest == 0 {
-        frame.longest == 0
-    } else {
-        false
-    }
+    frame.shortest == 0 && frame.longest == 0
 }
 
 // How straight a frame's edges were, behind its word.
-#[tactic(auto, unfolding(crate::specs::Lines::straight_of, text::specs::Text::puts))]
+#[tactic(auto, using(text::proofs::Puts::puts_append), unfolding(crate::specs::Lines::straight_of, text::specs::Text::puts))]
 fn straight(t: Text, frame: Frame) -> Text
     ensures { result ≡ puts t (straight_of frame) }
 {
     if unmeasured(frame) {
         return t;
     }
-    let s = t.push(b' ').decimal(frame.shortest as u64);
-    s.push(b' ').decimal(frame.longest as u64)
+    t.push(b' ')
+        .decimal(frame.shortest as u64)
+        .push(b' ')
+        .decimal(frame.longest as u64)
 }
 
-#[tactic(auto, unfolding(crate::specs::Lines::framed))]
+#[tactic(auto, using(text::proofs::Puts::puts_append), unfolding(crate::specs::Lines::framed, text::specs::Text::puts))]
 fn framed(time: u64, word: &[u8], line: u8, frame: Frame) -> Text
     ensures { result ≡ puts empty_text (framed_of time word.now line frame) }
 {
@@ -49,7 +48,7 @@ fn framed(time: u64, word: &[u8], line: u8, frame: Frame) -> Text
     straight(t, frame).push(b'\n')
 }
 
-#[tactic(auto, unfolding(crate::specs::Lines::alone))]
+#[tactic(auto, using(text::proofs::Puts::puts_append), unfolding(crate::specs::Lines::alone, text::specs::Text::puts))]
 fn alone(time: u64, word: &[u8], line: u8) -> Text
     ensures { result ≡ puts empty_text (alone_of time word.now line) }
 {
@@ -57,32 +56,22 @@ fn alone(time: u64, word: &[u8], line: u8) -> Text
 }
 
 // Bytes as pairs of digits.
-#[tactic(auto, unfolding(text::specs::Text::puts, crate::specs::Lines::in_hex))]
 fn bytes(t: Text, s: &[u8]) -> Text
     ensures { result ≡ puts t (in_hex s.now) }
 {
-    let mut shown = t;
-    let mut i = 0;
-    while i < s.len() {
-        shown = shown.hex(s[i] as u32, 2);
-        i += 1;
-    }
-    shown
+    s.iter().copied().fold(t, |shown, b| shown.hex(b as u32, 2))
 }
 
 // A reply: the first bytes of a room.
-#[tactic(auto, unfolding(crate::specs::Lines::replied))]
+#[tactic(auto, using(text::proofs::Puts::puts_append, std::proofs::lemmas::List::take_min), unfolding(crate::specs::Lines::replied, text::specs::Text::puts))]
 fn reply(time: u64, room: &[u8], count: usize) -> Text
     ensures { result ≡ puts empty_text (replied time count room.now) }
 {
     let start = Text::empty().decimal(time).put(b" reply ");
-    if count < room.len() {
-        return bytes(start, &room[..count]);
-    }
-    bytes(start, room)
+    bytes(start, &room[..count.min(room.len())])
 }
 
-#[tactic(auto, unfolding(crate::specs::Lines::outcome_of))]
+#[tactic(auto, using(text::proofs::Puts::puts_append), unfolding(crate::specs::Lines::outcome_of, text::specs::Text::puts))]
 fn outcome(time: u64, room: &[u8], count: usize, wait: u16) -> Text
     ensures { result ≡ puts empty_text (outcome_of time count room.now wait) }
 {
@@ -92,7 +81,7 @@ fn outcome(time: u64, room: &[u8], count: usize, wait: u16) -> Text
         .push(b'\n')
 }
 
-#[tactic(auto, unfolding(crate::specs::Lines::refused_of))]
+#[tactic(auto, using(text::proofs::Puts::puts_append), unfolding(crate::specs::Lines::refused_of, text::specs::Text::puts))]
 fn refused(time: u64, number: u8) -> Text
     ensures { result ≡ puts empty_text (refused_of time number) }
 {
@@ -112,7 +101,7 @@ pub fn sent(time: u64, line: u8, frame: Frame) -> Text
 }
 
 // What the box tells, of this line where it is one's; a reply stands in the room. A quiet tick has no line.
-#[tactic(auto, unfolding(crate::specs::Lines::told_of, text::specs::Text::puts))]
+#[tactic(auto, using(text::proofs::Puts::puts_append), unfolding(crate::specs::Lines::told_of, text::specs::Text::puts))]
 pub fn told(time: u64, line: u8, t: Told, room: &[u8]) -> Text
     ensures { result ≡ puts empty_text (told_of time line t room.now) }
 {

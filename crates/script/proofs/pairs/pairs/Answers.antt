@@ -1,57 +1,41 @@
 -- `script::pairs::pairs` meets its contract: nothing is written of what does not fit, and else a byte for each pair.
 -- Assumes nothing.
-use Rattle.std.proofs.Common.{◌≡◌, sym, ap, ◌∙◌, ℕ, ◌≤◌, ◌/◌, true, false, List, length, arith, eq-eqb, ne_eqb, le-leb}
-use Rattle.std.proofs.lemmas.Bool.{lt-leb}
-use Rattle.std.proofs.Math.ListN.{length-set}
-use Rattle.script.specs.Digits.{fits}
-use Rattle.script.specs.Lines.{placed}
-use Rattle.script.proofs.Bytes.{pairs_length, one_more, all_written, fitting_all, fitting_none}
+use Rattle.std.proofs.Common.{◌≡◌, sym, ap, ◌∙◌, true, length, Some, is_some, rules, arith}
+use borrow.Author.Tests.{tests}
+use Rattle.std.proofs.lemmas.Iterator.{YieldsList-from_slice}
+use Rattle.std.proofs.lemmas.Iterator.Search.{all_from_yields_List}
+use Rattle.std.specs.Slice.Iter.{chunks_exact_rest}
+use Rattle.std.specs.Iterator.Adapters.{enumerate_source, enumerate_count}
+use Rattle.script.specs.Digits.{digit_of, all_hex, pairs_of, fitting}
+use Rattle.script.proofs.Bytes.{pairs_length, one_more, all_written, fit}
 use Rattle.script.proofs.pairs.pairs.Goals as goal
-
-pub returns-then-s-ne0 : goal.returns-then-s-ne0
-unfolding fits
-returns-then-s-ne0 c =
-    let e : fits (length c.args.room.now) c.args.s.now ≡ false = rw (ne_eqb _ _ c.if-s-ne0.true) in
-    (sym e, ap (λ (b : List ℕ). placed b c.args.room.now) (sym (fitting_none _ _ e)))
-
-pub returns-then-room-count : goal.returns-then-room-count
-unfolding fits
-returns-then-room-count c =
-    let e : fits (length c.args.room.now) c.args.s.now ≡ false = rw (eq-eqb _ _ c.if-s-ne0.false, lt-leb _ _ c.if-room-count.true) in
-    (sym e, ap (λ (b : List ℕ). placed b c.args.room.now) (sym (fitting_none _ _ e)))
-
-pub returns-then-not-all_hex : goal.returns-then-not-all_hex
-unfolding fits
-returns-then-not-all_hex c =
-    let e : fits (length c.args.room.now) c.args.s.now ≡ false = rw (
-      eq-eqb _ _ c.if-s-ne0.false,
-      le-leb _ _ c.if-room-count.false,
-      ← c.all_hex.ensures,
-      c.if-not-all_hex.true,
-    ) in
-    (sym e, ap (λ (b : List ℕ). placed b c.args.room.now) (sym (fitting_none _ _ e)))
 
 pub loop-i-preserved : goal.loop-i-preserved
 loop-i-preserved c =
     let l = c.loop-i in
-    let count = pairs_length c.args.s.now in (
-      one_more _ c.args.room.now l.room l.i l.invariant.0 (omega arith) _ c.pair.ensures (omega arith),
-      omega arith,
-      l.invariant.2,
-      l.invariant.3,
-      simp length-set l.invariant.4,
-      l.invariant.5,
-      l.invariant.6,
-    )
+    let steps = c.in-Some.ensures.steps in
+    let more = one_more c.args.s.now c.args.room.now l.room (chunks_exact_rest (enumerate_source l.i-iterator)) (enumerate_count l.i-iterator)
+    l.invariant.written l.invariant.left (omega arith) c.in-Some.digits.now (chunks_exact_rest (enumerate_source c.next.new.self))
+    steps.0.1.0 (steps.0.1.1 ∙ l.invariant.size) in
+    rw (steps.2, steps.1, c.pair.ensures) (record {
+      written = more.0;
+      size = steps.0.0 ∙ l.invariant.size;
+      within = more.1;
+      left = more.2;
+    })
 
-pub returns : goal.returns
-unfolding fits
-returns c =
+fits_here : (c : goal.In-None) → fitting (length c.args.room.now) c.args.s.now ≡ Some (pairs_of c.args.s.now)
+fits_here c =
+    let s = c.args.s.now in
+    let hex : all_hex s ≡ true = sym (all_from_yields_List (λ b. is_some (digit_of b)) _ _ c.all.result c.all.ensures.ran (YieldsList-from_slice s cc) (λ x b q k. search (rules, tests))) ∙ c.if-not-all.false in
+    fit (length c.args.room.now) s (omega arith) (omega arith) hex
+
+pub returns-clause-count : goal.returns-clause-count
+returns-clause-count c = rw (fits_here c) (ap Some (sym (pairs_length c.args.s.now)))
+
+pub returns-clause-written : goal.returns-clause-written
+returns-clause-written c =
     let l = c.loop-i in
-    let few : length c.args.s.now / 2 ≤ length c.args.room.now = omega arith in
-    let e : fits (length c.args.room.now) c.args.s.now ≡ true = rw (eq-eqb _ _ l.invariant.5, le-leb _ _ few, l.invariant.6) in
-    let count = pairs_length c.args.s.now in (
-      sym e,
-      all_written _ c.args.room.now l.room l.i l.invariant.0 (omega arith) (omega arith) (omega arith)
-          ∙ ap (λ (b : List ℕ). placed b c.args.room.now) (sym (fitting_all _ _ e)),
-    )
+    let steps = c.in-None.ensures.steps in
+    rw (fits_here c) (all_written c.args.s.now c.args.room.now l.room (chunks_exact_rest (enumerate_source l.i-iterator)) (enumerate_count l.i-iterator)
+    l.invariant.written l.invariant.left (omega arith) (omega arith) l.invariant.within)
