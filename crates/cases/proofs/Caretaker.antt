@@ -1,14 +1,13 @@
 -- The caretaker's poll in numbers, computed from the definitions: what a line knows after a frame of the thermostat's went out, and from that what an
 -- order is told and what goes out for it.
 -- Assumes nothing.
+use Rattle.std.specs.Prelude.{None}
 use Prim.Native.Nat.{ℕ, ◌*◌, ◌%◌, ◌≤◌}
 use mathlib.Core.Path.{◌≡◌, refl, ap, ◌∙◌}
 use mathlib.Core.Bool.{true}
 use lib.Dec.{eqb, ltb, lit≤}
 use lib.Count.{ones_in}
 use borrow.Author.Tests.{ltb-true}
-use Rattle.word.specs.declared.Built.TheVariants.{Word}
-use Rattle.word.specs.declared.Frame.{Frame}
 use Rattle.word.specs.Frame.{even_of, spare_of, type_of, id_of, value_of, built_of}
 use Rattle.word.specs.Fields.{GoodWord}
 use Rattle.word.proofs.Worked.{counted, builds, built_is}
@@ -16,16 +15,14 @@ use Rattle.turns.specs.Line.{Line, line}
 use Rattle.turns.specs.declared.Talker.{Talker}
 use Rattle.turns.specs.declared.Talker.TheVariants.{Thermostat, Modbus}
 use Rattle.turns.specs.declared.Turn.TheVariants.{Rest}
-use Rattle.turns.specs.declared.Slot.TheVariants.{Empty}
-use Rattle.turns.specs.declared.Queue.TheVariants.{Nothing}
 use Rattle.turns.specs.declared.Status.{Status}
-use Rattle.turns.specs.Status.{no_status, exchanges_of, keeps_of, shows_of, flags_for, unknown_of, lacks_of, byte_of, status_word, word_by}
-use Rattle.turns.specs.Turns.{fresh_line, held_older, order_older, turn_older, line_older, word_for, waiting_of, sends_of, after, start_of, rests_of}
+use Rattle.turns.specs.Status.{no_status, exchanges_of, keeps_of, shows_of, flags_for, lacks_of, status_word, word_by}
+use Rattle.turns.specs.Turns.{fresh_line, aged, turn_older, line_older, word_for, waiting_of, sends_of, after, start_of, rests_of}
 use Rattle.turns.specs.Turns.{ended_of, silence_of, talks_of, tick_of, thermostat_of, under_way, order_of}
-use Rattle.turns.specs.Events.{Note, sent, exception, note_of}
+use Rattle.turns.specs.Events.{Note, sent, note_of}
 use Rattle.turns.specs.Cases.{ticks_later, plain}
 use Rattle.turns.proofs.Tried.{kept}
-use Rattle.cases.specs.Caretaker.{frame, poll_0, poll_70, status_03, status_01, status_70, write_05, invalid_05, unanswered, told_at_once}
+use Rattle.cases.specs.Caretaker.{frame, poll_0, poll_70, status_03, status_01, status_70, unanswered, told_at_once}
 use Rattle.cases.specs.Caretaker.{after_100, between, Caretaker}
 
 -- ---- worked words, by their digits
@@ -42,11 +39,11 @@ goes i b w e = let built = built_is 0 i (b * 256) w e in ap (λ (x : ℕ). sent 
 -- ---- a line at rest 0, with the last talker and the status
 
 rests : Talker → Status → Line
-rests x m = line (Rest 0) Empty Nothing x m
+rests x m = line (Rest 0) None None x m
 
 -- a frame of the thermostat's goes out, and nobody answers it: it is remembered
 out : (x : Talker) (m : Status) (w : ℕ) → GoodWord w → type_of w ≤ 2 → unanswered (rests x m) (frame w) ≡ rests Thermostat (shows_of m (frame w))
-unfolding unanswered rests ticks_later tick_of line_older turn_older held_older order_older rests_of start_of waiting_of sends_of after talks_of silence_of ended_of
+unfolding unanswered rests ticks_later tick_of line_older turn_older aged rests_of start_of waiting_of sends_of after talks_of silence_of ended_of
 out Thermostat m w g ty = ap (ticks_later 975) (kept (rests Thermostat m) (frame w) g ty)
 out Modbus m w g ty = ap (ticks_later 975) (kept (rests Modbus m) (frame w) g ty)
 
@@ -66,8 +63,8 @@ unfolding known_both ones_in spare_of type_of
 out_both = ap (λ (l : Line). unanswered l status_70) out_03 ∙ out Thermostat known_03 0x0046_0755 (good 0x0046_0755 refl refl refl) (lit≤ tt)
 
 pub caretaker : Caretaker
-unfolding rests known_03 known_both after_100 between ticks_later order_of under_way lacks_of exchanges_of flags_for unknown_of shows_of keeps_of ones_in spare_of type_of id_of
-    value_of tick_of line_older turn_older held_older order_older rests_of start_of waiting_of word_for word_by byte_of sends_of after talks_of silence_of ended_of
+unfolding rests known_03 known_both after_100 between ticks_later order_of under_way lacks_of exchanges_of flags_for shows_of keeps_of ones_in spare_of type_of id_of
+    value_of tick_of line_older turn_older aged rests_of start_of waiting_of word_for word_by sends_of after talks_of silence_of ended_of
 caretaker =
     let polled : Line → Note = λ l. told_at_once l poll_0 in
     record {

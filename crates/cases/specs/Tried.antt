@@ -1,11 +1,11 @@
 -- 'Tried numbers (P: proved, one table)' of 01, each in the terms of the definitions that the contracts cite. `tried` of proofs/Table.antt
 -- proves them together.
 -- Assumes nothing: these are definitions.
-use Rattle.std.specs.Prelude.{◌≡◌, true, false, [], ◌∷◌, ℕ, ◌≤◌}
+use Rattle.std.specs.Prelude.{◌≡◌, true, false, [], ◌∷◌, ℕ, ◌≤◌, Ok}
 use Rattle.std.specs.Float.{binary32}
 use Rattle.std.specs.Float.Ieee.{to_bits}
 use Rattle.std.specs.Float.Ieee.Exact.{HasValue}
-use Rattle.word.specs.declared.Built.TheVariants.{Word}
+use Rattle.refusals.specs.declared.Refusal.TheVariants.{OutOfTime}
 use Rattle.word.specs.declared.Frame.{Frame}
 use Rattle.word.specs.Fields.{GoodWord}
 use Rattle.word.specs.Frame.{type_of, matches_of, built_of, read_data, write_data, unknown_dataid, data_invalid}
@@ -18,13 +18,13 @@ use Rattle.samples.specs.Tried.{Gives, p11_cases}
 
 pub record Tried : Type 0 where
   -- P1 READ-DATA 25, value 0: 80190000
-  pub p1 : built_of read_data 25 0 ≡ Word 0x8019_0000
+  pub p1 : built_of read_data 25 0 ≡ Ok 0x8019_0000
   -- P2 WRITE-DATA 1, 3C00: 10013C00
-  pub p2 : built_of write_data 1 0x3c00 ≡ Word 0x1001_3c00
+  pub p2 : built_of write_data 1 0x3c00 ≡ Ok 0x1001_3c00
   -- P3 UNKNOWN-DATAID 25, 0: 70190000
-  pub p3 : built_of unknown_dataid 25 0 ≡ Word 0x7019_0000
+  pub p3 : built_of unknown_dataid 25 0 ≡ Ok 0x7019_0000
   -- P4 DATA-INVALID 25, 0: E0190000
-  pub p4 : built_of data_invalid 25 0 ≡ Word 0xe019_0000
+  pub p4 : built_of data_invalid 25 0 ≡ Ok 0xe019_0000
   -- P5 f8.8 3280 is 50.5, float bits 424A0000
   pub p5 : to_bits binary32 (real_of 0x3280) ≡ 0x424a_0000
   pub p5_is : HasValue (real_of 0x3280) false 505 10
@@ -36,9 +36,9 @@ pub record Tried : Type 0 where
   pub p7_is : HasValue (real_of 0x8000) true 128 1
   -- P8 checksum of 05 03 00 76 00 01 goes out 64 54 (003)
   pub p8 : sealed (0x05 ∷ 0x03 ∷ 0x00 ∷ 0x76 ∷ 0x00 ∷ 0x01 ∷ []) ≡ 0x05 ∷ 0x03 ∷ 0x00 ∷ 0x76 ∷ 0x00 ∷ 0x01 ∷ 0x64 ∷ 0x54 ∷ []
-  -- P9 a match at age 84 counts, at 83 is refusal 7: any word w of a question, any frame b that matches it
+  -- P9 a match at age 84 counts, at 83 is refusal 7 (`number_of`, refusals/specs/Numbers): any word w of a question, any frame b that matches it
   pub p9 : (w : ℕ) (b : Frame) → matches_of w b.word ≡ true →
-      (note_of (boiler_of (asking w 84) b).said ≡ answer b 184) × (note_of (boiler_of (asking w 83) b).said ≡ refused 7)
+      (note_of (boiler_of (asking w 84) b).said ≡ answer b 184) × (note_of (boiler_of (asking w 83) b).said ≡ refused OutOfTime)
   -- P10 at 874 counts; tick 875 gives no answer
   pub p10 : (w : ℕ) (b : Frame) → matches_of w b.word ≡ true →
       (note_of (boiler_of (asking w 874) b).said ≡ answer b 974) × (note_of (tick_of (asking w 874)).said ≡ no_answer 975)

@@ -2,30 +2,21 @@
 #![tactic(auto)]
 
 use std::io;
-use text::Text;
 use values::Typed;
-use word::Built;
 
 // A word from its fields, as P1 to P4 print it.
 fn built<P: Print>(rt: &P, number: u8, t: u8, id: u8, value: u16) -> io::Result<()> {
-    let line = Text::empty().push(b'P').decimal(number as u64).push(b' ');
     match word::build(t, id, value) {
-        Built::Word(w) => print::print(rt, line.hex(w, 8).push(b'\n')),
-        Built::Refused(n) => print::print(rt, line.put(b"refused ").decimal(n as u64).push(b'\n')),
+        Ok(w) => println!(rt; "P{number} {w:08X}"),
+        Err(refusal) => println!(rt; "P{number} refused {}", refusal.number()),
     }
 }
 
 // The float bits of a raw number of id 25, as P5 to P7 print them.
 fn real<P: Print>(rt: &P, number: u8, raw: u16) -> io::Result<()> {
-    let line = Text::empty().push(b'P').decimal(number as u64).push(b' ');
     match values::typed_of(25, raw) {
-        Typed::Real(x) => {
-            if x == x {
-                return print::print(rt, line.hex(f32::to_bits(x), 8).push(b'\n'));
-            }
-            Ok(())
-        }
-        _ => print::print(rt, line.put(b"no real\n")),
+        Typed::Real(x) if !x.is_nan() => println!(rt; "P{number} {:08X}", x.to_bits()),
+        _ => println!(rt; "P{number} no real"),
     }
 }
 

@@ -27,30 +27,25 @@ use word::Frame;
 
 // What a frame holds, in one number: whatever is in no output the compiler leaves out.
 fn all_of(f: Frame) -> u32 {
-    let straight = std::num::wrapping_add_u32(f.shortest as u32, f.longest as u32);
-    std::num::wrapping_add_u32(f.word, straight)
+    let straight = u32::from(f.shortest).wrapping_add(u32::from(f.longest));
+    f.word.wrapping_add(straight)
 }
 
 fn answers(count: u32, a: Answer) -> u32 {
     match a {
         Answer::Nothing => count,
-        Answer::Frame(f) => std::num::wrapping_add_u32(count, all_of(f)),
-        Answer::Refused(_) => std::num::wrapping_add_u32(count, 1),
+        Answer::Frame(f) => count.wrapping_add(all_of(f)),
+        Answer::Refused(_) => count.wrapping_add(1),
     }
 }
 
 fn fed(room: &[u8; 704], n: u32) -> u32 {
     let mut reader = Reader::fresh();
-    let mut count: u32 = 0;
-    let mut at: usize = 0;
-    let mut left = n;
-    while left > 0 {
-        let step = reader.step(room[at]);
-        let answer = step.answer;
-        count = answers(count, answer);
+    let mut count = 0;
+    for sample in room.iter().cycle().take(n as usize) {
+        let step = reader.step(*sample);
+        count = answers(count, step.answer);
         reader = step.reader;
-        at = (at + 1) % 704;
-        left -= 1;
     }
     count
 }
@@ -58,122 +53,68 @@ fn fed(room: &[u8; 704], n: u32) -> u32 {
 // A frame with 24 idle samples before it, over and over.
 fn samples(word: u32, n: u32) -> u32 {
     let mut room = [0u8; 704];
-    writer::write(word, &mut room[24..704]);
+    let _ = writer::write(word, &mut room[24..]);
     fed(&room, n)
 }
 
 fn told(count: u32, t: Told) -> u32 {
     match t {
         Told::Quiet => count,
-        _ => std::num::wrapping_add_u32(count, 1),
+        _ => count.wrapping_add(1),
     }
 }
 
-fn ticks(start: Gateway, again: u8, n: u32, room: &mut [u8]) -> u32 {
-    let mut gateway = start;
-    let mut count: u32 = 0;
-    let mut left = n;
-    let mut more = again;
-    while left > 0 {
-        let t = gateway.tick(room);
-        let said = t.told;
-        count = told(count, said);
-        gateway = t.gateway;
-        if more > 1 {
-            more -= 1;
-        } else {
-            more = again;
-            gateway = start;
+// One thing happens to the box n times, and after so many of them the box is put back into its state, if it ever is: how many were answered.
+// It is no function of a closure: a call through one copies the box once more, and a tick would come to 314 instructions, of 300 at most.
+macro_rules! repeated {
+    ($start:expr, $again:expr, $n:expr, |$gateway:ident| $once:expr) => {{
+        let mut $gateway = $start;
+        let mut count: u32 = 0;
+        let mut more: Option<u8> = $again;
+        for _ in 0..$n {
+            let after = $once;
+            count = told(count, after.told);
+            $gateway = after.gateway;
+            match more {
+                None => {}
+                Some(left) if left > 1 => more = Some(left - 1),
+                Some(_) => {
+                    more = $again;
+                    $gateway = $start;
+                }
+            }
         }
-        left -= 1;
-    }
-    count
+        count
+    }};
 }
 
 // The frame that comes again and again.
-fn frame_in(block: &[u8]) -> Frame {
+fn frame_in(block: &[u8; 128]) -> Frame {
     Frame {
         word: word_at(block, 18),
-        shortest: byte_at(block, 23),
-        longest: byte_at(block, 24),
+        shortest: block[23],
+        longest: block[24],
     }
-}
-
-fn frames(start: Gateway, block: &[u8], n: u32, room: &mut [u8]) -> u32 {
-    let line = byte_at(block, 17);
-    let frame = frame_in(block);
-    let mut gateway = start;
-    let mut count: u32 = 0;
-    let mut left = n;
-    while left > 0 {
-        let m = gateway.boiler(line, frame, room);
-        let said = m.told;
-        count = told(count, said);
-        gateway = m.gateway;
-        left -= 1;
-    }
-    count
-}
-
-fn held(start: Gateway, block: &[u8], n: u32) -> u32 {
-    let line = byte_at(block, 17);
-    let frame = frame_in(block);
-    let mut gateway = start;
-    let mut count: u32 = 0;
-    let mut left = n;
-    while left > 0 {
-        let m = gateway.thermostat(line, frame);
-        let said = m.told;
-        count = told(count, said);
-        gateway = m.gateway;
-        left -= 1;
-    }
-    count
-}
-
-fn messages(start: Gateway, again: u8, message: &[u8], n: u32, room: &mut [u8]) -> u32 {
-    let mut gateway = start;
-    let mut count: u32 = 0;
-    let mut left = n;
-    let mut more = again;
-    while left > 0 {
-        let m = gateway.message(message, room);
-        let said = m.told;
-        count = told(count, said);
-        gateway = m.gateway;
-        if more > 1 {
-            more -= 1;
-        } else {
-            more = again;
-            gateway = start;
-        }
-        left -= 1;
-    }
-    count
 }
 
 fn ticked(before: Gateway, n: u32, room: &mut [u8]) -> Gateway {
     let mut gateway = before;
-    let mut left = n;
-    while left > 0 {
-        let t = gateway.tick(room);
-        gateway = t.gateway;
-        left -= 1;
+    for _ in 0..n {
+        gateway = gateway.tick(room).gateway;
     }
     gateway
 }
 
-// The event of set-up at that place.
-fn happened(before: Gateway, block: &[u8], at: u8, message: &[u8], room: &mut [u8]) -> Gateway {
-    let kind = byte_at(block, at as usize);
-    let line = byte_at(block, at as usize + 1);
-    let often = word_at(block, at as usize + 4);
+// An event of set-up.
+fn happened(before: Gateway, event: &[u8], message: &[u8], room: &mut [u8]) -> Gateway {
+    let line = byte_at(event, 1);
+    let often = word_at(event, 4);
     let frame = Frame {
         word: often,
-        shortest: byte_at(block, at as usize + 2),
-        longest: byte_at(block, at as usize + 3),
+        shortest: byte_at(event, 2),
+        longest: byte_at(event, 3),
     };
-    match kind {
+    match byte_at(event, 0) {
         b't' => ticked(before, often, room),
         b'h' => before.thermostat(line, frame).gateway,
         b'b' => before.boiler(line, frame, room).gateway,
@@ -182,6 +123,7 @@ fn happened(before: Gateway, block: &[u8], at: u8, message: &[u8], room: &mut [u
     }
 }
 
+// No From: a mark is no type to convert from.
 fn form_of(mark: u8) -> MessageForm {
     if mark == b't' {
         MessageForm::Tcp
@@ -190,35 +132,54 @@ fn form_of(mark: u8) -> MessageForm {
     }
 }
 
-fn set_up(block: &[u8], message: &[u8], room: &mut [u8]) -> Gateway {
-    let mut gateway = Gateway::fresh(form_of(byte_at(block, 25)));
-    let mut at: u8 = 64;
-    while at < 128 {
-        gateway = happened(gateway, block, at, message, room);
-        at += 8;
+fn set_up(block: &[u8; 128], message: &[u8], room: &mut [u8]) -> Gateway {
+    let mut gateway = Gateway::fresh(form_of(block[25]));
+    for event in block[64..].chunks_exact(8) {
+        gateway = happened(gateway, event, message, room);
     }
     gateway
 }
 
-// The decimal number behind the letter.
-fn number(block: &[u8]) -> u32 {
-    let mut n: u32 = 0;
-    let mut i: usize = 1;
-    while i < 16 {
-        let byte = byte_at(block, i);
-        if b'0' <= byte {
-            n = n % 100_000_000 * 10 + (byte % 16) as u32;
-        }
-        i += 1;
-    }
-    n
+// The decimal number behind the letter. No `parse`: what is no digit is passed over.
+fn number(block: &[u8; 128]) -> u32 {
+    block[1..16]
+        .iter()
+        .filter(|byte| **byte >= b'0')
+        .fold(0, |n, byte| n % 100_000_000 * 10 + u32::from(*byte % 16))
 }
 
-fn repeated(block: &[u8], message: &[u8], n: u32) -> u32 {
+fn ticks(start: Gateway, again: u8, n: u32, room: &mut [u8]) -> u32 {
+    repeated!(start, Some(again), n, |gateway| gateway.tick(room))
+}
+
+fn held(start: Gateway, block: &[u8; 128], n: u32) -> u32 {
+    let line = block[17];
+    let frame = frame_in(block);
+    repeated!(start, None, n, |gateway| gateway.thermostat(line, frame))
+}
+
+fn frames(start: Gateway, block: &[u8; 128], n: u32, room: &mut [u8]) -> u32 {
+    let line = block[17];
+    let frame = frame_in(block);
+    repeated!(start, None, n, |gateway| gateway.boiler(line, frame, room))
+}
+
+fn messages(start: Gateway, again: u8, message: &[u8], n: u32, room: &mut [u8]) -> u32 {
+    repeated!(
+        start,
+        Some(again),
+        n,
+        |gateway| gateway.message(message, room)
+    )
+}
+
+fn done(block: &[u8; 128]) -> u32 {
+    let n = number(block);
+    let message = &block[32..32 + usize::from(block[22] % 33)];
     let mut room = [0u8; 16];
     let start = set_up(block, message, &mut room);
-    let again = byte_at(block, 16);
-    match byte_at(block, 0) {
+    let again = block[16];
+    match block[0] {
         b's' => samples(word_at(block, 18), n),
         b't' => ticks(start, again, n, &mut room),
         b'h' => held(start, block, n),
@@ -228,19 +189,11 @@ fn repeated(block: &[u8], message: &[u8], n: u32) -> u32 {
     }
 }
 
-fn done(block: &[u8]) -> u32 {
-    if block.len() < 128 {
-        return 0;
-    }
-    let n = number(block);
-    let length = (byte_at(block, 22) % 33) as usize;
-    repeated(block, &block[32..32 + length], n)
-}
-
 fn main(rt: HostRuntime) -> io::Result<()> {
     let mut block = [0u8; 128];
-    let mut from = rt.stdin();
-    let _read = input::read_full(&mut from, &mut block)?;
-    let count = done(&block);
-    print(&rt, Text::empty().decimal(count as u64).push(b'\n'))
+    input::read_full(&mut rt.stdin(), &mut block)?;
+    print(
+        &rt,
+        Text::empty().decimal(u64::from(done(&block))).push(b'\n'),
+    )
 }

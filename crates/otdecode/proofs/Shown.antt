@@ -1,6 +1,9 @@
 -- An answer's line is printed whole, and the lines don't depend on how the samples are cut into blocks.
 -- Assumes nothing.
 use Rattle.std.proofs.Common.{◌≡◌, ℕ, ◌+◌, ◌^◌, ◌<◌, ◌≤◌, List, [], ◌∷◌, ◌++◌, length, get_or, drop, sym, refl, ap, ◌∙◌, ap₂, append_assoc, arith, length-append}
+use Rattle.refusals.specs.declared.Refusal.{Refusal}
+use Rattle.refusals.specs.Numbers.{number_of}
+use Rattle.refusals.proofs.Names.{to_19}
 use Rattle.word.specs.declared.Frame.{Frame as Word}
 use Rattle.text.specs.Text.{empty_text, puts, says}
 use Rattle.text.proofs.Puts.{decimal_short, hex_length, says_puts}
@@ -8,8 +11,7 @@ use Rattle.samples.specs.declared.Answer.TheVariants.{Frame, Refused}
 use Rattle.samples.specs.Reader.{Reader, Step}
 use Rattle.samples.specs.Reading.{step_of}
 use Rattle.samples.specs.Run.{answers_of, after_of}
-use Rattle.print.specs.Page.{Page, all_added}
-use Rattle.print.proofs.Added.{all_append, left_from}
+use Rattle.print.proofs.Added.{left_from}
 use Rattle.otdecode.specs.Lines.{shown_of, shown_if, next_place, shown_in, last_place}
 
 -- the text of a frame's line and of a refusal's says just that line
@@ -23,13 +25,14 @@ frame_shown index f h s g =
     let short : length (shown_of index (Frame f)) ≤ 120 = simp length-append (omega arith) in
     says_puts (shown_of index (Frame f)) short
 
-pub refused_shown : (index n : ℕ) → index < 2 ^ 64 → n < 2 ^ 8 → says (puts empty_text (shown_of index (Refused n))) ≡ shown_of index (Refused n)
+pub refused_shown : (index : ℕ) (r : Refusal) → index < 2 ^ 64 → says (puts empty_text (shown_of index (Refused r))) ≡ shown_of index (Refused r)
 unfolding shown_of
-refused_shown index n h g =
+refused_shown index r h =
     let i = decimal_short 19 index (omega arith) in
-    let w = decimal_short 2 n (omega arith) in
-    let short : length (shown_of index (Refused n)) ≤ 120 = simp length-append (omega arith) in
-    says_puts (shown_of index (Refused n)) short
+    let n = to_19 r in
+    let w = decimal_short 2 (number_of r) (omega arith) in
+    let short : length (shown_of index (Refused r)) ≤ 120 = simp length-append (omega arith) in
+    says_puts (shown_of index (Refused r)) short
 
 -- samples that come in two blocks give the same lines
 pub cut : (index : ℕ) (r : Reader) (s t : List ℕ) →
@@ -57,12 +60,3 @@ module _ (s : List ℕ) (i : ℕ) (h : i < length s) where
     rest_more n m em =
         ap₂ (λ (y : Step) (k : ℕ). shown_if n y.answer ++ shown_in k (answers_of y.reader (drop (i + 1) s))) ex em
         ∙ sym (ap (λ (y : List ℕ). shown_in n (answers_of r y)) (left_from s i h))
-
-    pub lines_more : (n m : ℕ) (p q : Page) → m ≡ next_place n → q ≡ all_added p (shown_if n x.answer) →
-        all_added q (shown_in m (answers_of x.reader (drop (i + 1) s))) ≡ all_added p (shown_in n (answers_of r (drop i s)))
-    unfolding shown_in answers_of
-    lines_more n m p q em eq =
-        ap (λ (y : Page). all_added y (shown_in m (answers_of x.reader (drop (i + 1) s)))) eq
-        ∙ sym (all_append p (shown_if n x.answer) (shown_in m (answers_of x.reader (drop (i + 1) s))))
-        ∙ ap₂ (λ (y : Step) (k : ℕ). all_added p (shown_if n y.answer ++ shown_in k (answers_of y.reader (drop (i + 1) s)))) ex em
-        ∙ sym (ap (λ (y : List ℕ). all_added p (shown_in n (answers_of r y))) (left_from s i h))

@@ -2,6 +2,7 @@
 -- neighbouring middle edges (02, Ask 3), `INDEX refused N`, none where there is no answer.
 -- Assumes nothing: these are definitions.
 use Rattle.std.specs.Prelude.{ℕ, ◌+◌, ◌%◌, ◌^◌, Bool, true, false, cond, List, [], ◌∷◌, ◌++◌}
+use Rattle.refusals.specs.Numbers.{number_of}
 use Rattle.text.specs.Text.{empty_text, puts, says, decimal_of, hex_of}
 use Rattle.samples.specs.declared.Answer.{Answer}
 use Rattle.samples.specs.declared.Answer.TheVariants.{Nothing, Frame, Refused}
@@ -19,13 +20,13 @@ shown_of index Nothing = []
 shown_of index (Frame f) =
     decimal_of index
     ++ (frame_word ++ (hex_of 8 f.word ++ (32 ∷ (decimal_of f.shortest ++ (32 ∷ (decimal_of f.longest ++ (10 ∷ [])))))))
-shown_of index (Refused n) = decimal_of index ++ (refused_word ++ (decimal_of n ++ (10 ∷ [])))
+shown_of index (Refused r) = decimal_of index ++ (refused_word ++ (decimal_of (number_of r) ++ (10 ∷ [])))
 
 -- which answers have a line
 abbrev pub tells_of : Answer → Bool
 tells_of Nothing = false
 tells_of (Frame f) = true
-tells_of (Refused n) = true
+tells_of (Refused r) = true
 
 -- what is printed for an answer: what a text says into which its line is put
 unfoldable pub shown_if : ℕ → Answer → List (List ℕ)

@@ -1,26 +1,27 @@
 // The line of an answer at a sample's place.
 ghost use Rattle.std.specs.Prelude.{◌≡◌};
-ghost use Rattle.text.specs.Text.{empty_text, puts};
-ghost use Rattle.otdecode.specs.Lines.{shown_of};
+ghost use Rattle.print.specs.Page.{texts};
+ghost use Rattle.otdecode.specs.Lines.{shown_if};
 
 use reader::Answer;
 use text::Text;
 
-#[tactic(auto, unfolding(crate::specs::Lines::shown_of, text::specs::Text::puts))]
-pub(crate) fn line(index: u64, answer: Answer) -> Text
-    ensures { result ≡ puts empty_text (shown_of index answer) }
+// No answer has no line.
+#[tactic(auto, using(text::proofs::Puts::puts_append), unfolding(crate::specs::Lines::shown_if, crate::specs::Lines::shown_of, text::specs::Text::puts))]
+pub(crate) fn line(index: u64, answer: Answer) -> Option<Text>
+    ensures { texts result ≡ shown_if index answer }
 {
     match answer {
-        Answer::Nothing => Text::empty(),
+        Answer::Nothing => None,
         Answer::Frame(f) => {
             let t = Text::empty().decimal(index).put(b" frame ");
             let w = t.hex(f.word, 8).push(b' ');
             let s = w.decimal(f.shortest as u64).push(b' ');
-            s.decimal(f.longest as u64).push(b'\n')
+            Some(s.decimal(f.longest as u64).push(b'\n'))
         }
-        Answer::Refused(n) => {
+        Answer::Refused(refusal) => {
             let t = Text::empty().decimal(index).put(b" refused ");
-            t.decimal(n as u64).push(b'\n')
+            Some(t.decimal(u64::from(refusal.number())).push(b'\n'))
         }
     }
 }

@@ -5,7 +5,8 @@
 // of three bytes; `stdout` has what 01 says of them, more than the room takes at once.
 #![tactic(auto)]
 
-ghost use Rattle.std.specs.Prelude.{◌≡◌, ◌+◌, ◌<◌, ◌≤◌, length, IfOk, OnErr};
+ghost use Rattle.std.specs.Prelude.{◌≡◌, ◌*◌, ◌/◌, ◌≤◌, take, length};
+ghost use Rattle.otencode.specs.Encoded.{encoded};
 
 use std::io;
 use std::io::Read;
@@ -13,60 +14,35 @@ use writer::FRAME_SAMPLES;
 
 const WORD: usize = 4;
 
-// Samples gather in the room. Where one more frame would not fit, they go out first; only then can there be an error.
-fn make_room<P: Print>(rt: &P, room: &[u8], used: usize) -> io::Result<usize>
-    requires { (used ≤ length room.now) × (680 ≤ length room.now) }
-    ensures ok { IfOk result (λ at. at + 680 ≤ length room.now) }
-    ensures err { OnErr result (length room.now < used + 680) }
-{
-    if room.len() - used < FRAME_SAMPLES {
-        rt.write_all(&room[..used])?;
-        Ok(0)
-    } else {
-        Ok(used)
-    }
-}
+// The words of a block, of which the samples go out in one write.
+const WORDS: usize = 96;
 
-// The samples of a word, behind those in the room. Where a write fails, the room stays as it was.
-fn add<P: Print>(rt: &P, word: u32, room: &mut [u8], used: usize) -> io::Result<usize>
-    requires { (used ≤ length room.old) × (680 ≤ length room.old) }
-    ensures ok { IfOk result (λ n. n ≤ length room.new) }
-    ensures err { OnErr result (room.new ≡ room.old) }
+// Writes the samples of the words that are whole, one behind the other, in front in the room.
+#[tactic(auto, unfolding(crate::specs::Encoded::encoded))]
+fn encode(words: &[u8], room: &mut [u8; WORDS * FRAME_SAMPLES])
+    requires { length words.now ≤ 384 }
+    ensures { take (length words.now / 4 * 680) room.new ≡ encoded (length words.now / 4) words.now }
 {
-    let at = make_room(rt, room, used)?;
-    writer::write(word, &mut room[at..]);
-    Ok(at + FRAME_SAMPLES)
-}
-
-// Writes the samples of a block's words.
-fn encode<P: Print>(rt: &P, block: &[u8], room: &mut [u8]) -> io::Result<()>
-    requires { 680 ≤ length room.old }
-{
-    let mut used: usize = 0;
-    let mut at: usize = 0;
-    while block.len() - at >= WORD {
-        used = add(rt, places::word_at(block, at), room, used)?;
-        at += WORD;
+    for k in 0..words.len() / WORD {
+        let _ = writer::write(
+            places::word_at(words, k * WORD),
+            &mut room[k * FRAME_SAMPLES..],
+        );
     }
-    rt.write_all(&room[..used])
 }
 
 // A block is whole words but for the last, and whether it was the last is the answer.
 fn encode_some<R: Read, P: Print>(stdin: &mut R, rt: &P) -> io::Result<bool> {
-    let mut block = [0u8; 4096];
+    let mut block = [0u8; WORDS * WORD];
     let n = input::read_full(stdin, &mut block)?;
-    let mut room = [0u8; 65536];
-    encode(rt, &block[..n], &mut room)?;
-    Ok(n == 4096)
+    let mut room = [0u8; WORDS * FRAME_SAMPLES];
+    encode(&block[..n], &mut room);
+    rt.write_all(&room[..n / WORD * FRAME_SAMPLES])?;
+    Ok(n == block.len())
 }
 
-// A proved loop has to end, and nothing says that the input does: there are more turns than any run uses up.
+// The same two lines as otreal's; a function of them would be no plainer.
 fn main(rt: HostRuntime) -> io::Result<()> {
     let mut stdin = rt.stdin();
-    for _ in 0..u64::MAX {
-        if !encode_some(&mut stdin, &rt)? {
-            return Ok(());
-        }
-    }
-    Ok(())
+    input::while_more(|| encode_some(&mut stdin, &rt))
 }

@@ -1,16 +1,23 @@
 -- The list of ids, in ASCII: a line for each id that is listed, `id,hex,kind,scale,read,write`.
 -- Assumes nothing: these are definitions.
-use Rattle.std.specs.Prelude.{ℕ, zero, suc, ◌+◌, Bool, cond, ◌||◌, List, [], ◌∷◌, ◌++◌, eqb}
+use Rattle.std.specs.Prelude.{ℕ, zero, suc, ◌+◌, Bool, cond, ◌||◌, List, [], ◌∷◌, ◌++◌}
 use Rattle.text.specs.Text.{decimal_of, hex_of}
-use Rattle.ids.specs.Ids.{real, kind_of, readable_of, writable_of}
+use Rattle.ids.specs.declared.Kind.{Kind}
+use Rattle.ids.specs.declared.Kind.TheVariants.{Real, S16, U16, Pair, SPair, Raw}
+use Rattle.ids.specs.Ids.{kind_of, readable_of, writable_of}
 use Rattle.kinds.specs.Names.{name_of}
 
 abbrev pub comma : ℕ
 comma = 44
 
 -- what a register's number is times: `0.00390625`, a 256th, for a real, and `1`
-unfoldable pub scale_of : ℕ → List ℕ
-scale_of k = cond (eqb k real) (48 ∷ 46 ∷ 48 ∷ 48 ∷ 51 ∷ 57 ∷ 48 ∷ 54 ∷ 50 ∷ 53 ∷ []) (49 ∷ [])
+unfoldable pub scale_of : Kind → List ℕ
+scale_of Real = 48 ∷ 46 ∷ 48 ∷ 48 ∷ 51 ∷ 57 ∷ 48 ∷ 54 ∷ 50 ∷ 53 ∷ []
+scale_of S16 = 49 ∷ []
+scale_of U16 = 49 ∷ []
+scale_of Pair = 49 ∷ []
+scale_of SPair = 49 ∷ []
+scale_of Raw = 49 ∷ []
 
 -- a letter for yes, and `-` for no
 abbrev pub mark_of : Bool → ℕ → ℕ

@@ -3,12 +3,15 @@
 
 mod row;
 
-ghost use Rattle.std.specs.Prelude.{◌≡◌, ◌||◌, IfOk, OnErr};
-ghost use Rattle.print.specs.Page.{page as page_of, all_added, BrokenOff};
+ghost use Rattle.std.specs.Prelude.{◌≡◌, ◌||◌, OnOk, OnErr};
+ghost use Rattle.print.specs.Page.{all_added, texts, BrokenOff};
+ghost use Rattle.print.specs.Reads.{page_of};
 ghost use Rattle.ids.specs.Ids.{readable_of, writable_of};
 ghost use Rattle.otids.specs.Lines.{line_if, lines_from};
 
+use print::Page;
 use std::io;
+use text::Text;
 
 fn listed(id: u8) -> bool
     ensures { result ≡ (readable_of id || writable_of id) }
@@ -16,34 +19,29 @@ fn listed(id: u8) -> bool
     ids::readable(id) || ids::writable(id)
 }
 
-#[tactic(auto, unfolding(crate::specs::Lines::line_if, print::specs::Page::all_added))]
-fn add_row<P: Print>(rt: &P, page: &mut [u8], used: usize, id: u8) -> io::Result<usize>
-    ensures ok { IfOk result (λ n. page_of page.new n ≡ all_added (page_of page.old used) (line_if id)) }
-    ensures err { OnErr result (page.new ≡ page.old) }
+#[tactic(auto, using(crate::proofs::Says::whole), unfolding(crate::specs::Lines::line_if))]
+fn line_if(id: u8) -> Option<Text>
+    ensures { texts result ≡ line_if id }
 {
-    if listed(id) {
-        return print::add(rt, page, used, row::line(id));
-    }
-    Ok(used)
+    listed(id).then(|| row::line(id))
 }
 
-// The lines of all ids, behind what a page holds. Where a write fails the page stays as it was after the lines before.
-fn add_rows<P: Print>(rt: &P, page: &mut [u8], before: usize) -> io::Result<usize>
-    ensures ok { IfOk result (λ n. page_of page.new n ≡ all_added (page_of page.old before) (lines_from 256 0)) }
-    ensures err { OnErr result (BrokenOff (page_of page.old before) (lines_from 256 0) page.new) }
+// (What is on the page then, and after an error, is two clauses in five functions of four programs: no macro writes a clause.)
+// The lines of all ids, behind what stands on a page. Where a write fails the page stays as it was after the lines before.
+fn add_rows<P: Print>(rt: &P, page: &mut Page) -> io::Result<()>
+    ensures ok { OnOk result (page_of page.new ≡ all_added (page_of page.old) (lines_from 256 0)) }
+    ensures err { OnErr result (BrokenOff (page_of page.old) (lines_from 256 0) (page_of page.new)) }
 {
-    let mut used = before;
-    let mut id: u32 = 0;
-    while id < 256 {
-        used = add_row(rt, page, used, id as u8)?;
-        id += 1;
+    for id in 0..=u8::MAX {
+        page.add_some(rt, line_if(id))?;
     }
-    Ok(used)
+    Ok(())
 }
 
 fn main(rt: HostRuntime) -> io::Result<()> {
-    let mut page = [0u8; 4096];
+    let mut room = [0u8; 4096];
+    let mut page = Page::over(&mut room);
     rt.write_all(b"id,hex,kind,scale,read,write\n")?;
-    let used = add_rows(&rt, &mut page, 0)?;
-    print::flush(&rt, &page, used)
+    add_rows(&rt, &mut page)?;
+    page.flush(&rt)
 }

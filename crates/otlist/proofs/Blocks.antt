@@ -4,8 +4,7 @@ use mathlib.Core.Path.{◌≡◌, refl, sym, ap, ap₂, ◌∙◌}
 use mathlib.Core.List.{List, [], ◌∷◌, ◌++◌, append_assoc}
 use Prim.Native.Nat.{ℕ, ◌+◌, ◌<◌}
 use lib.ListN.{length, drop, get_or}
-use Rattle.print.specs.Page.{Page, all_added}
-use Rattle.print.proofs.Added.{all_append, left_from}
+use Rattle.print.proofs.Added.{left_from}
 use Rattle.otlist.specs.Words.{word_after, count_after, line_if, lines_in, last_word, last_count}
 
 -- a block that comes in two parts gives the same lines, and leaves the same behind
@@ -36,12 +35,3 @@ module _ (s : List ℕ) (i : ℕ) (h : i < length s) where
   unfolding lines_in
   rest_more w v n m ev em =
       ap₂ (λ (x y : ℕ). line_if y x ++ lines_in x y (drop (i + 1) s)) ev em ∙ sym (ap (lines_in w n) (left_from s i h))
-
-  pub lines_more : (w v n m : ℕ) (p q : Page) → v ≡ word_after w (get_or s i 0) → m ≡ count_after n → q ≡ all_added p (line_if m v) →
-      all_added q (lines_in v m (drop (i + 1) s)) ≡ all_added p (lines_in w n (drop i s))
-  unfolding lines_in
-  lines_more w v n m p q ev em eq =
-      ap (λ (x : Page). all_added x (lines_in v m (drop (i + 1) s))) eq
-      ∙ sym (all_append p (line_if m v) (lines_in v m (drop (i + 1) s)))
-      ∙ ap₂ (λ (x y : ℕ). all_added p (line_if y x ++ lines_in x y (drop (i + 1) s))) ev em
-      ∙ sym (ap (λ (x : List ℕ). all_added p (lines_in w n x)) (left_from s i h))

@@ -13,7 +13,6 @@ use Rattle.places.specs.Bytes.{pair_at, word_at}
 use Rattle.text.specs.Text.{decimal_of, digits_in, hex_of}
 use Rattle.ids.specs.Ids.{rows, rows_in, rows_of, entry_of, kind_of}
 use Rattle.otlist.specs.Listing.{signed_decimal, listed_numbers, listed_fields, listed_of, listing_of}
-use Rattle.kinds.specs.Names.{name_of}
 
 -- - parity
 abbrev parity : List ℕ
@@ -72,7 +71,7 @@ fields w l h e f = worked w true h e ∙ f
 pub example :
     listing_of (0x40 ∷ 0x19 ∷ 0x32 ∷ 0x80 ∷ 0xc0 ∷ 0x00 ∷ 0x03 ∷ 0x0a ∷ 0x40 ∷ 0x00 ∷ 0x03 ∷ 0x0a ∷ 0x80 ∷ [])
     ≡ boiler_water ∷ status ∷ parity ∷ short ∷ []
-unfolding listing_of word_at pair_at ones_in listed_fields type_of id_of value_of decimal_of digits_in hex_of name_of kind_of entry_of rows_of rows rows_in listed_numbers signed_decimal
+unfolding listing_of word_at pair_at ones_in listed_fields type_of id_of value_of decimal_of digits_in hex_of kind_of entry_of rows_of rows rows_in listed_numbers signed_decimal
 example =
     ap₂ (λ (x : List ℕ) (l : List (List ℕ)). x ∷ l) (fields 0x4019_3280 boiler_water (lit< tt) refl refl)
     (ap₂ (λ (x y : List ℕ). x ∷ y ∷ short ∷ []) (fields 0xc000_030a status (lit< tt) refl refl) (worked 0x4000_030a false (lit< tt) refl))
@@ -98,7 +97,7 @@ pub record EachKind : Type 0 where
   large_line : listed_of 0x4016_fedc ≡ large
 
 pub each_kind : EachKind
-unfolding ones_in listed_fields type_of id_of value_of decimal_of digits_in hex_of name_of kind_of entry_of rows_of rows rows_in listed_numbers signed_decimal
+unfolding ones_in listed_fields type_of id_of value_of decimal_of digits_in hex_of kind_of entry_of rows_of rows rows_in listed_numbers signed_decimal
 each_kind =
     record {
       below_0_line = fields 0x4019_ff00 below_0 (lit< tt) refl refl;

@@ -1,10 +1,12 @@
 -- The listing (01, 'The listing'), in ASCII: the line of a word, and the lines of a whole input.
 -- Assumes nothing: these are definitions.
-use Rattle.std.specs.Prelude.{ℕ, suc, ◌/◌, ◌%◌, cond, List, [], ◌∷◌, ◌++◌, eqb, ℤ, pos, negsuc}
+use Rattle.std.specs.Prelude.{ℕ, suc, ◌/◌, ◌%◌, cond, List, [], ◌∷◌, ◌++◌, ℤ, pos, negsuc}
 use Rattle.word.specs.Frame.{even_of, type_of, id_of, value_of}
 use Rattle.places.specs.Bytes.{word_at}
 use Rattle.text.specs.Text.{decimal_of, hex_of}
-use Rattle.ids.specs.Ids.{kind_of, real, s16, pair, spair}
+use Rattle.ids.specs.declared.Kind.{Kind}
+use Rattle.ids.specs.declared.Kind.TheVariants.{Real, S16, U16, Pair, SPair, Raw}
+use Rattle.ids.specs.Ids.{kind_of}
 use Rattle.ids.specs.Signed.{signed16, signed8}
 use Rattle.kinds.specs.Names.{name_of}
 
@@ -23,13 +25,13 @@ signed_decimal (pos n) = decimal_of n
 signed_decimal (negsuc n) = minus ∷ decimal_of (suc n)
 
 -- "the number (two for a pair; a real as its signed raw number; raw as unsigned)"
-unfoldable pub listed_numbers : ℕ → ℕ → List ℕ
-listed_numbers k v =
-    cond (eqb k real) (signed_decimal (signed16 v))
-    (cond (eqb k s16) (signed_decimal (signed16 v))
-    (cond (eqb k pair) (decimal_of (v / 256) ++ (space ∷ decimal_of (v % 256)))
-    (cond (eqb k spair) (signed_decimal (signed8 (v / 256)) ++ (space ∷ signed_decimal (signed8 (v % 256))))
-    (decimal_of v))))
+unfoldable pub listed_numbers : Kind → ℕ → List ℕ
+listed_numbers Real v = signed_decimal (signed16 v)
+listed_numbers S16 v = signed_decimal (signed16 v)
+listed_numbers U16 v = decimal_of v
+listed_numbers Pair v = decimal_of (v / 256) ++ (space ∷ decimal_of (v % 256))
+listed_numbers SPair v = signed_decimal (signed8 (v / 256)) ++ (space ∷ signed_decimal (signed8 (v % 256)))
+listed_numbers Raw v = decimal_of v
 
 -- "type, id in decimal, value in four hex digits, kind, and the number"
 unfoldable pub listed_fields : ℕ → List ℕ

@@ -1,40 +1,37 @@
 // One line of the listing from one word, and the line for a tail that is none.
-ghost use Rattle.std.specs.Prelude.{◌≡◌, ◌<◌, ◌+◌};
+ghost use Rattle.std.specs.Prelude.{◌≡◌};
 ghost use Rattle.text.specs.Text.{empty_text, puts};
-ghost use Rattle.ids.specs.Signed.{signed as signed_by};
 ghost use Rattle.otlist.specs.Listing.{signed_decimal, listed_numbers, listed_fields, listed_of, short_line};
 
+use ids::Kind;
 use text::Text;
 
+// By sign and size, as the definition has it; `itoa` prints an i16 too, and what it prints is said in std's words.
 #[tactic(auto, unfolding(crate::specs::Listing::signed_decimal, text::specs::Text::puts))]
-fn signed(t: Text, half: u32, n: u32) -> Text
-    requires n_bound { n < half + half }
-    requires half_bound { half < 0x8000_0000 }
-    ensures { result ≡ puts t (signed_decimal (signed_by half n)) }
+fn signed(t: Text, z: i16) -> Text
+    ensures { result ≡ puts t (signed_decimal z) }
 {
-    if n < half {
-        t.decimal(n as u64)
+    let size = z.unsigned_abs() as u64;
+    if z < 0 {
+        t.push(b'-').decimal(size)
     } else {
-        t.push(b'-').decimal((half + half - n) as u64)
+        t.decimal(size)
     }
 }
 
-#[tactic(auto, unfolding(crate::specs::Listing::listed_numbers))]
-fn numbers(t: Text, kind: u8, v: u16) -> Text
+#[tactic(auto, using(text::proofs::Puts::puts_field), unfolding(crate::specs::Listing::listed_numbers))]
+fn numbers(t: Text, kind: Kind, v: u16) -> Text
     ensures { result ≡ puts t (listed_numbers kind v) }
 {
+    let [high, low] = v.to_be_bytes();
     match kind {
-        1 => signed(t, 0x8000, v as u32),
-        2 => signed(t, 0x8000, v as u32),
-        4 => t
-            .decimal((v / 256) as u64)
-            .push(b' ')
-            .decimal((v % 256) as u64),
-        5 => {
-            let u = signed(t, 0x80, (v / 256) as u32);
-            signed(u.push(b' '), 0x80, (v % 256) as u32)
+        Kind::Real | Kind::S16 => signed(t, v.cast_signed()),
+        Kind::Pair => t.decimal(high as u64).push(b' ').decimal(low as u64),
+        Kind::SPair => {
+            let u = signed(t, i16::from(high.cast_signed())).push(b' ');
+            signed(u, i16::from(low.cast_signed()))
         }
-        _ => t.decimal(v as u64),
+        Kind::U16 | Kind::Raw => t.decimal(v as u64),
     }
 }
 
@@ -48,7 +45,7 @@ fn fields(t: Text, w: u32) -> Text
     let a = t.decimal(word::type_of(w) as u64).push(b' ');
     let b = a.decimal(id as u64).push(b' ');
     let c = b.hex(value as u32, 4).push(b' ');
-    let d = kinds::name(c, kind).push(b' ');
+    let d = kinds::named(c, kind).push(b' ');
     numbers(d, kind, value).push(b'\n')
 }
 

@@ -1,93 +1,63 @@
 // The words in a block of bytes, and their lines on a page. A word may have begun in an earlier block and may end in a later one.
-ghost use Rattle.std.specs.Prelude.{◌≡◌, IfOk, OnErr};
-ghost use Rattle.print.specs.Page.{page as page_of, all_added, BrokenOff};
+ghost use Rattle.std.specs.Prelude.{◌≡◌, OnOk, OnErr};
+ghost use Rattle.print.specs.Page.{all_added, texts, BrokenOff};
+ghost use Rattle.print.specs.Reads.{page_of};
 ghost use Rattle.otlist.specs.Words.{word_after, count_after, line_if, lines_in, last_word, last_count, at_end};
 
 use crate::listing::{line, short};
+use print::Page;
 use std::io;
+use text::Text;
 
-// The last four bytes as a number, how many bytes of a word have come, how much of the page is used, and whether there may be more to read.
-#[derive(Drop)]
+// The last four bytes as a number, and how many bytes of a word have come: no length of the number, which has four bytes whatever came.
+#[derive(Clone, Copy, Default)]
 pub(crate) struct Part {
-    pub word: u32,
-    pub count: u8,
-    pub used: usize,
-    pub more: bool,
-}
-
-fn word_after(word: u32, b: u8) -> u32
-    ensures { result ≡ word_after word b }
-{
-    word % 0x100_0000 * 256 + b as u32
-}
-
-fn count_after(count: u8) -> u8
-    ensures { result ≡ count_after count }
-{
-    (count % 4 + 1) % 4
-}
-
-// The line of a word that is whole.
-#[tactic(auto, unfolding(crate::specs::Words::line_if, print::specs::Page::all_added))]
-fn add_line<P: Print>(
-    rt: &P,
-    page: &mut [u8],
-    used: usize,
-    count: u8,
     word: u32,
-) -> io::Result<usize>
-    ensures ok { IfOk result (λ n. page_of page.new n ≡ all_added (page_of page.old used) (line_if count word)) }
-    ensures err { OnErr result (page.new ≡ page.old) }
-{
-    if count != 0 {
-        return Ok(used);
-    }
-    print::add(rt, page, used, line(word))
-}
-
-// The lines of the words that end in a block. Where a write fails the page stays as it was after the lines before.
-#[tactic(auto, unfolding(crate::specs::Words::last_word, crate::specs::Words::last_count, crate::specs::Words::lines_in, print::specs::Page::all_added))]
-pub(crate) fn take<P: Print>(rt: &P, block: &[u8], part: Part, page: &mut [u8]) -> io::Result<Part>
-    ensures word { IfOk result (λ after. after.word ≡ last_word part.word block.now) }
-    ensures count { IfOk result (λ after. after.count ≡ last_count part.count block.now) }
-    ensures lines { IfOk result (λ after. page_of page.new after.used
-        ≡ all_added (page_of page.old part.used) (lines_in part.word part.count block.now)) }
-    ensures err { OnErr result (BrokenOff
-        (page_of page.old part.used)
-        (lines_in part.word part.count block.now)
-        page.new) }
-{
-    let mut word = part.word;
-    let mut count = part.count;
-    let mut used = part.used;
-    let mut i = 0;
-    while i < block.len() {
-        word = word_after(word, block[i]);
-        count = count_after(count);
-        used = add_line(rt, page, used, count, word)?;
-        i += 1;
-    }
-    Ok(Part {
-        word: word,
-        count: count,
-        used: used,
-        more: true,
-    })
-}
-
-// The line for a word that has begun and does not end.
-#[tactic(auto, unfolding(crate::specs::Words::at_end, print::specs::Page::all_added))]
-pub(crate) fn add_end<P: Print>(
-    rt: &P,
-    page: &mut [u8],
-    used: usize,
     count: u8,
-) -> io::Result<usize>
-    ensures ok { IfOk result (λ n. page_of page.new n ≡ all_added (page_of page.old used) (at_end count)) }
-    ensures err { OnErr result (page.new ≡ page.old) }
-{
-    if count == 0 {
-        return Ok(used);
+}
+
+impl Part {
+    // One byte more. In arithmetic, as the definitions say it: a shift that loses the highest byte, and an `|`, are no plainer.
+    fn push(&mut self, b: u8)
+        ensures word { self.new.word ≡ word_after self.old.word b }
+        ensures count { self.new.count ≡ count_after self.old.count }
+    {
+        self.word = self.word % 0x100_0000 * 256 + b as u32;
+        self.count = (self.count % 4 + 1) % 4;
     }
-    print::add(rt, page, used, short())
+
+    // The line of a word that is whole.
+    #[tactic(auto, using(crate::proofs::Says::listed), unfolding(crate::specs::Words::line_if))]
+    fn line(self) -> Option<Text>
+        ensures { texts result ≡ line_if self.count self.word }
+    {
+        (self.count == 0).then(|| line(self.word))
+    }
+
+    // The lines of the words that end in a block. Where a write fails the page stays as it was after the lines before.
+    #[tactic(auto, unfolding(crate::specs::Words::last_word, crate::specs::Words::last_count, crate::specs::Words::lines_in, print::specs::Page::all_added))]
+    pub(crate) fn take<P: Print>(&mut self, rt: &P, block: &[u8], page: &mut Page) -> io::Result<()>
+        ensures word { OnOk result (self.new.word ≡ last_word self.old.word block.now) }
+        ensures count { OnOk result (self.new.count ≡ last_count self.old.count block.now) }
+        ensures lines { OnOk result (page_of page.new
+            ≡ all_added (page_of page.old) (lines_in self.old.word self.old.count block.now)) }
+        ensures err { OnErr result (BrokenOff
+            (page_of page.old)
+            (lines_in self.old.word self.old.count block.now)
+            (page_of page.new)) }
+    {
+        for &b in block {
+            self.push(b);
+            page.add_some(rt, self.line())?;
+        }
+        Ok(())
+    }
+
+    // The line for a word that has begun and does not end.
+    #[tactic(auto, using(crate::proofs::Says::short_said), unfolding(crate::specs::Words::at_end))]
+    pub(crate) fn end(self) -> Option<Text>
+        ensures { texts result ≡ at_end self.count }
+    {
+        (self.count != 0).then(short)
+    }
 }

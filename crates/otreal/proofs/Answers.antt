@@ -1,6 +1,10 @@
 -- The answer that `values::bits` gives for a float is the raw number, of all 65,536 tried, that has its bits, or the refusal; and its line
 -- fits the text's room, so that it is printed whole.
 -- Assumes nothing.
+use Rattle.std.specs.Prelude.{Result, Ok, Err}
+use Rattle.refusals.specs.declared.Refusal.{Refusal}
+use Rattle.refusals.specs.Numbers.{number_of}
+use Rattle.std.proofs.lemmas.Bool.{cases_lt}
 use mathlib.Core.Path.{◌≡◌, refl, sym, ap, ◌∙◌, subst}
 use mathlib.Core.Logic.{⊎_elim}
 use mathlib.Core.Bool.{Bool, true, false, not, cond}
@@ -16,16 +20,14 @@ use Rattle.text.specs.Text.{empty_text, puts, says}
 use Rattle.text.proofs.Puts.{decimal_short, hex_length, says_puts}
 use Rattle.values.specs.Real.{real_of, negative, sized, BackOf}
 use Rattle.values.specs.Numbers.{back_value}
-use Rattle.values.specs.declared.Back.{Back}
-use Rattle.values.specs.declared.Back.TheVariants.{Bits, Refused}
-use Rattle.values.proofs.Exact.{lt_or_ge, real_exact, real_fits}
+use Rattle.values.proofs.Exact.{real_exact, real_fits}
 use Rattle.values.proofs.Floats.{not_nan}
 use Rattle.values.proofs.Trip.{refused_none}
 use Rattle.otreal.specs.Lines.{raw_below, raw_of, line_of, printed_of}
 
-number : Back → ℕ
-number (Bits m) = m
-number (Refused m) = m
+number : Result ℕ Refusal → ℕ
+number (Ok m) = m
+number (Err r) = number_of r
 
 module _ (bits : ℕ) (small : bits < 2 ^ 32) where
   -- a raw number has these float bits exactly where it gives this float
@@ -37,19 +39,19 @@ module _ (bits : ℕ) (small : bits < 2 ^ 32) where
       let real = not_nan (real_of raw) (negative raw) (sized raw) 256 (real_exact raw h) in
       sym (ap (to_bits binary32) e) ∙ to_bits-of_bits binary32 bits small (subst (λ (x : Float). T (not (is_nan x))) (sym e) real)
 
-  found : (raw : ℕ) → BackOf (of_bits binary32 bits) (Bits raw) → (n : ℕ) → n ≤ 0x1_0000 → raw < n → raw_below bits n ≡ valued raw
+  found : (raw : ℕ) → BackOf (of_bits binary32 bits) (Ok raw) → (n : ℕ) → n ≤ 0x1_0000 → raw < n → raw_below bits n ≡ valued raw
   unfolding raw_below number
   found raw p zero u l = absurd (omega arith)
   found raw p (suc n) u l = go (eqb (to_bits binary32 (real_of n)) bits) refl (λ h. found raw p n (omega arith) h)
     where
       go : (b : Bool) → eqb (to_bits binary32 (real_of n)) bits ≡ b → (raw < n → raw_below bits n ≡ valued raw) → cond b (valued n) (raw_below bits n) ≡ valued raw
-      go true e f = ap (λ (r : Back). valued (number r)) (sym (p.given n (omega arith) (gives n (eqb-true _ bits e))))
+      go true e f = ap (λ (r : Result ℕ Refusal). valued (number r)) (sym (p.given n (omega arith) (gives n (eqb-true _ bits e))))
       go false e f =
           let mine = p.found raw refl in
           let here : n ≡ raw → ⊥ = λ s. eqb-false _ bits e (ap (λ (m : ℕ). to_bits binary32 (real_of m)) s ∙ has raw mine.0 mine.1) in
-          f (⊎_elim (λ (h : raw < n). h) (λ (h : n ≤ raw). absurd (here (omega arith))) (lt_or_ge raw n))
+          f (⊎_elim (λ (h : raw < n). h) (λ (h : n ≤ raw). absurd (here (omega arith))) (cases_lt raw n))
 
-  none : (m : ℕ) → BackOf (of_bits binary32 bits) (Refused m) → (n : ℕ) → n ≤ 0x1_0000 → raw_below bits n ≡ refused 10
+  none : (m : Refusal) → BackOf (of_bits binary32 bits) (Err m) → (n : ℕ) → n ≤ 0x1_0000 → raw_below bits n ≡ refused 10
   unfolding raw_below
   none m p zero u = refl
   none m p (suc n) u = go (eqb (to_bits binary32 (real_of n)) bits) refl (none m p n (omega arith))
@@ -58,10 +60,10 @@ module _ (bits : ℕ) (small : bits < 2 ^ 32) where
       go true e f = absurd (refused_none (of_bits binary32 bits) m p n (omega arith) (gives n (eqb-true _ bits e)))
       go false e f = f
 
-  pub answered : (r : Back) → BackOf (of_bits binary32 bits) r → back_value r ≡ raw_of bits
+  pub answered : (r : Result ℕ Refusal) → BackOf (of_bits binary32 bits) r → back_value r ≡ raw_of bits
   unfolding raw_of
-  answered (Bits raw) p = sym (found raw p 0x1_0000 (omega arith) (p.found raw refl).0)
-  answered (Refused m) p = ap refused (p.number m refl) ∙ sym (none m p 0x1_0000 (omega arith))
+  answered (Ok raw) p = sym (found raw p 0x1_0000 (omega arith) (p.found raw refl).0)
+  answered (Err m) p = ap (λ (r : Refusal). refused (number_of r)) (p.number m refl) ∙ sym (none m p 0x1_0000 (omega arith))
 
   -- the text of a float's line says just that line
   short : (n : ℕ) → length (line_of (raw_below bits n)) ≤ 120

@@ -14,17 +14,12 @@ fn next<R: Read, P: Print>(stdin: &mut R, rt: &P) -> io::Result<bool> {
     if input::read_full(stdin, &mut bytes)? < 4 {
         return Ok(false);
     }
-    print::print(rt, line(places::word_at(&bytes, 0)))?;
+    print::print(rt, line(u32::from_be_bytes(bytes)))?;
     Ok(true)
 }
 
-// A proved loop has to end, and nothing says that the input does: there are more turns than any run uses up.
+// The same two lines as otencode's; a function of them would be no plainer.
 fn main(rt: HostRuntime) -> io::Result<()> {
     let mut stdin = rt.stdin();
-    for _ in 0..u64::MAX {
-        if !next(&mut stdin, &rt)? {
-            return Ok(());
-        }
-    }
-    Ok(())
+    input::while_more(|| next(&mut stdin, &rt))
 }

@@ -1,11 +1,11 @@
 -- The lines that are printed for an event of a script.
 -- Assumes nothing: these are definitions.
-use Rattle.std.specs.Prelude.{ℕ, Bool, true, false, cond, List, [], ◌∷◌, ◌++◌}
+use Rattle.std.specs.Prelude.{ℕ, Bool, true, false, cond, List, [], ◌∷◌, ◌++◌, Option, Some, None}
+use Rattle.turns.specs.declared.Talker.{Talker}
+use Rattle.word.specs.declared.Frame.{Frame}
 use Rattle.text.specs.Text.{empty_text, puts, says}
 use Rattle.script.specs.declared.Event.{Event}
 use Rattle.script.specs.declared.Event.TheVariants.{Skip, Wrong, Ticks, Thermostat, Boiler, Message, Room, Fresh}
-use Rattle.promises.specs.declared.Out.{Out}
-use Rattle.promises.specs.declared.Out.TheVariants.{Silent, Sent}
 use Rattle.promises.specs.declared.Outs.{Outs}
 use Rattle.promises.specs.declared.Told.{Told}
 use Rattle.trace.specs.Lines.{sent_of, told_of}
@@ -15,9 +15,9 @@ abbrev pub printed : List ℕ → List ℕ
 printed l = says (puts empty_text l)
 
 -- a frame that goes out
-unfoldable pub sent_if : ℕ → ℕ → Out → List (List ℕ)
-sent_if time line Silent = []
-sent_if time line (Sent talker frame) = printed (sent_of time line frame) ∷ []
+unfoldable pub sent_if : ℕ → ℕ → Option (Talker × Frame) → List (List ℕ)
+sent_if time line None = []
+sent_if time line (Some (talker, frame)) = printed (sent_of time line frame) ∷ []
 
 -- a tick: what goes out, by line 1 to 4, and what is told
 unfoldable pub tick_trace : ℕ → Outs → Told → List ℕ → List (List ℕ)

@@ -1,87 +1,25 @@
 // The box on the desk: what an event of the script does to it, and the trace of that. Functions that have the box in hand go
 // straight on, wherever they can: what they depend on is found out by small functions that haven't.
-ghost use Rattle.std.specs.Prelude.{◌≤◌};
-
 use crate::paper::{happened, ticked};
-use gateway::{Asked, Gateway, MessageForm, Moved, Told};
+use gateway::{Asking, Gateway, MessageForm, Moved, Told};
+use print::Page;
 use script::Event;
 use std::io;
 
-// The box, its time in ticks, the size of the rooms that are lent to it, how much is held of the script's line under way, and how much of
-// the page is used on which its trace is collected.
-#[derive(Clone, Copy)]
+// The box, its time in ticks, and the size of the rooms that are lent to it.
+#[derive(Drop)]
 pub(crate) struct Desk {
-    pub gateway: Gateway,
-    pub time: u64,
-    pub lent: usize,
-    pub used: usize,
-    pub paper: usize,
-}
-
-// A script begins with a serial box.
-pub(crate) fn fresh() -> Desk {
-    Desk {
-        gateway: Gateway::fresh(MessageForm::Serial),
-        time: 0,
-        lent: 256,
-        used: 0,
-        paper: 0,
-    }
-}
-
-// So many, or all there are.
-fn at_most(n: usize, all: usize) -> usize
-    ensures { result ≤ all }
-{
-    if n < all { n } else { all }
+    gateway: Gateway,
+    time: u64,
+    lent: usize,
 }
 
 // The time after what was told to a tick: a refused tick passes none.
 fn passed(time: u64, told: Told) -> u64 {
     match told {
         Told::Refused(_) => time,
-        _ => std::num::wrapping_add_u64(time, 1),
+        _ => time.wrapping_add(1),
     }
-}
-
-fn tick<P: Print>(rt: &P, mut d: Desk, room: &mut [u8], page: &mut [u8]) -> io::Result<Desk> {
-    let t = d.gateway.tick(room);
-    let told = t.told;
-    let outs = t.outs;
-    let next = t.gateway;
-    let time = passed(d.time, told);
-    d.paper = ticked(rt, page, d.paper, time, outs, told, room)?;
-    d.time = time;
-    d.gateway = next;
-    Ok(d)
-}
-
-// Whether a tick would change nothing but the time: the box has nothing to do, and its room is large enough.
-fn at_rest(d: Desk) -> bool {
-    if d.lent < Gateway::ROOM {
-        return false;
-    }
-    let lines = d.gateway.lines;
-    rests::all_idle(lines)
-}
-
-// So many ticks that change nothing but the time.
-fn pass(mut d: Desk, n: u32) -> Desk {
-    d.time = std::num::wrapping_add_u64(d.time, n as u64);
-    d
-}
-
-fn ticks<P: Print>(rt: &P, d: Desk, n: u32, room: &mut [u8], page: &mut [u8]) -> io::Result<Desk> {
-    let mut desk = d;
-    let mut left = n;
-    while left > 0 {
-        if at_rest(desk) {
-            return Ok(pass(desk, left));
-        }
-        desk = tick(rt, desk, room, page)?;
-        left -= 1;
-    }
-    Ok(desk)
 }
 
 // How many ticks an event is.
@@ -97,10 +35,7 @@ fn moved(gateway: Gateway, e: Event, bytes: &[u8], room: &mut [u8]) -> Moved {
     match e {
         Event::Thermostat(line, frame) => gateway.thermostat(line, frame),
         Event::Boiler(line, frame) => gateway.boiler(line, frame, room),
-        Event::Message(count) => {
-            let n = at_most(count, bytes.len());
-            gateway.message(&bytes[..n], room)
-        }
+        Event::Message(count) => gateway.message(&bytes[..count.min(bytes.len())], room),
         Event::Fresh(form) => untold(Gateway::fresh(form)),
         _ => untold(gateway),
     }
@@ -108,27 +43,20 @@ fn moved(gateway: Gateway, e: Event, bytes: &[u8], room: &mut [u8]) -> Moved {
 
 fn untold(gateway: Gateway) -> Moved {
     Moved {
-        gateway: gateway,
+        gateway,
         told: Told::Quiet,
     }
 }
 
-// The line of the order under way.
-fn line_asked(asked: Asked) -> u8 {
-    match asked {
-        Asked::Nothing => 0,
-        Asked::Waits(a) => {
-            let o = a.order;
-            o.line
-        }
-    }
+// The line of the order under way; where there is none, nothing is told of a line, and `trace::told` prints none.
+fn line_asked(asked: Option<Asking>) -> u8 {
+    asked.map_or(0, |a| a.order.line)
 }
 
 // The line that an event is about: a frame's own, or that of the order which a message became.
-fn line_of(e: Event, asked: Asked) -> u8 {
+fn line_of(e: Event, asked: Option<Asking>) -> u8 {
     match e {
-        Event::Thermostat(line, _) => line,
-        Event::Boiler(line, _) => line,
+        Event::Thermostat(line, _) | Event::Boiler(line, _) => line,
         _ => line_asked(asked),
     }
 }
@@ -141,7 +69,7 @@ fn lent_after(e: Event, lent: usize) -> usize {
     }
 }
 
-// The time after an event that is no ticks: that of a new box begins.
+// The time after an event and its ticks: that of a new box begins.
 fn time_after(e: Event, time: u64) -> u64 {
     match e {
         Event::Fresh(_) => 0,
@@ -149,36 +77,82 @@ fn time_after(e: Event, time: u64) -> u64 {
     }
 }
 
-// An event that is no ticks.
-fn play<P: Print>(
-    rt: &P,
-    mut d: Desk,
-    e: Event,
-    bytes: &[u8],
-    room: &mut [u8],
-    page: &mut [u8],
-) -> io::Result<Desk> {
-    let m = moved(d.gateway, e, bytes, room);
-    let told = m.told;
-    let next = m.gateway;
-    let asked = next.asked;
-    d.paper = happened(rt, page, d.paper, d.time, line_of(e, asked), e, told, room)?;
-    d.gateway = next;
-    d.lent = lent_after(e, d.lent);
-    d.time = time_after(e, d.time);
-    Ok(d)
-}
+impl Desk {
+    // A script begins with a serial box.
+    pub(crate) fn fresh() -> Self {
+        Desk {
+            gateway: Gateway::fresh(MessageForm::Serial),
+            time: 0,
+            lent: 256,
+        }
+    }
 
-// An event, with as much of the room lent as the desk says.
-pub(crate) fn happens<P: Print>(
-    rt: &P,
-    d: Desk,
-    e: Event,
-    bytes: &[u8],
-    room: &mut [u8],
-    page: &mut [u8],
-) -> io::Result<Desk> {
-    let n = at_most(d.lent, room.len());
-    let after = ticks(rt, d, ticks_in(e), &mut room[..n], page)?;
-    play(rt, after, e, bytes, &mut room[..n], page)
+    fn tick<P: Print>(&mut self, rt: &P, room: &mut [u8], page: &mut Page) -> io::Result<()> {
+        let t = self.gateway.tick(room);
+        self.gateway = t.gateway;
+        self.time = passed(self.time, t.told);
+        ticked(rt, page, self.time, t.outs, t.told, room)
+    }
+
+    // Whether a tick would change nothing but the time: the box has nothing to do, and its room is large enough.
+    fn at_rest(&self) -> bool {
+        Gateway::ROOM <= self.lent && rests::all_idle(self.gateway.lines)
+    }
+
+    fn ticks<P: Print>(
+        &mut self,
+        rt: &P,
+        n: u32,
+        room: &mut [u8],
+        page: &mut Page,
+    ) -> io::Result<()> {
+        for done in 0..n {
+            if self.at_rest() {
+                self.time = self.time.wrapping_add((n - done) as u64);
+                break;
+            }
+            self.tick(rt, room, page)?;
+        }
+        Ok(())
+    }
+
+    // An event behind its ticks, if it has any. What it comes to is asked in five small functions, each of which knows its own events: closures, or a
+    // match over the box, would be no plainer.
+    fn play<P: Print>(
+        &mut self,
+        rt: &P,
+        e: Event,
+        bytes: &[u8],
+        room: &mut [u8],
+        page: &mut Page,
+    ) -> io::Result<()> {
+        let m = moved(self.gateway, e, bytes, room);
+        self.gateway = m.gateway;
+        happened(
+            rt,
+            page,
+            self.time,
+            line_of(e, m.gateway.asked),
+            e,
+            m.told,
+            room,
+        )?;
+        self.lent = lent_after(e, self.lent);
+        self.time = time_after(e, self.time);
+        Ok(())
+    }
+
+    // An event, with as much of the room lent as the desk says.
+    pub(crate) fn happens<P: Print>(
+        &mut self,
+        rt: &P,
+        e: Event,
+        bytes: &[u8],
+        room: &mut [u8],
+        page: &mut Page,
+    ) -> io::Result<()> {
+        let n = self.lent.min(room.len());
+        self.ticks(rt, ticks_in(e), &mut room[..n], page)?;
+        self.play(rt, e, bytes, &mut room[..n], page)
+    }
 }

@@ -4,149 +4,112 @@
 mod desk;
 mod paper;
 
-ghost use Rattle.std.specs.Prelude.{◌≡◌, ◌<◌, ◌≤◌, length, IfOk, OnErr};
-ghost use Rattle.std.specs.Io.KnownBytes.{Keeps};
-
 use desk::Desk;
+use print::Page;
 use script::Event;
 use std::io;
 use std::io::Read;
 
 const LONGEST: usize = 1024;
 
-// The place of the next end of a line, or the block's end.
-fn line_end(block: &[u8], from: usize) -> usize
-    requires { from ≤ length block.now }
-    ensures { (from ≤ result) × (result ≤ length block.now) }
-{
-    let mut at = from;
-    while at < block.len() {
-        if block[at] == b'\n' {
-            break;
-        }
-        at += 1;
-    }
-    at
-}
-
-// Part of a line behind what is held of it; 1,025 where that is too much.
-fn append(held: &mut [u8], used: usize, part: &[u8]) -> usize {
-    let mut at = used;
-    let mut i = 0;
-    while i < part.len() {
-        if held.len() <= at {
-            return LONGEST + 1;
-        }
-        held[at] = part[i];
-        at += 1;
-        i += 1;
-    }
-    at
-}
-
-// What is held of a line: it is read where the line has ended, and kept where it hasn't.
-fn event(held: &[u8], used: usize, ended: bool, bytes: &mut [u8]) -> Event {
-    if !ended {
-        return Event::Skip;
-    }
-    if held.len() < used {
-        return Event::Wrong;
-    }
-    script::event_of(&held[..used], bytes)
-}
-
-// How much of a line is held after that.
-fn kept(used: usize, ended: bool) -> usize {
-    if ended { 0 } else { used }
-}
-
-// What is held of a line is played, if the line has ended.
-fn held_line<P: Print>(
-    rt: &P,
-    mut d: Desk,
+// The script's line under way, as far as it has come. Of one that is longer than the room only the length is right:
+// an ArrayVec can't hold the length of a line that has no room in it.
+#[derive(Drop)]
+struct Held {
+    bytes: [u8; LONGEST],
     used: usize,
-    ended: bool,
-    held: &[u8],
-    room: &mut [u8],
-    page: &mut [u8],
-) -> io::Result<Desk> {
-    let mut bytes = [0u8; 300];
-    let e = event(held, used, ended, &mut bytes);
-    d.used = kept(used, ended);
-    desk::happens(rt, d, e, &bytes, room, page)
 }
 
-// The lines that end in a block, and the part of one behind them.
-fn lines<P: Print>(
-    rt: &P,
-    first: Desk,
-    block: &[u8],
-    held: &mut [u8],
-    room: &mut [u8],
-    page: &mut [u8],
-) -> io::Result<Desk> {
-    let mut desk = first;
-    let mut from = 0;
-    while from < block.len() {
-        let to = line_end(block, from);
-        let used = append(held, desk.used, &block[from..to]);
-        desk = held_line(rt, desk, used, to < block.len(), held, room, page)?;
-        from = to + 1;
+impl Held {
+    fn nothing() -> Self {
+        Held {
+            bytes: [0; LONGEST],
+            used: 0,
+        }
     }
-    Ok(desk)
+
+    fn append(&mut self, part: &[u8]) {
+        let end = self.used.saturating_add(part.len());
+        if let Some(room) = self.bytes.get_mut(self.used..end) {
+            room.copy_from_slice(part);
+        }
+        self.used = end;
+    }
+
+    // What the line says, which has ended; the next one begins. A message's bytes go into the room.
+    fn event(&mut self, bytes: &mut [u8]) -> Event {
+        let e = match self.bytes.get(..self.used) {
+            Some(line) => script::event_of(line, bytes),
+            None => Event::Wrong,
+        };
+        self.used = 0;
+        e
+    }
 }
 
-// A block, and what is printed for it, written before the next is read.
-fn play<P: Print>(
-    rt: &P,
+// The box on the desk, the room that is lent to it, and the script as far as it has come.
+#[derive(Drop)]
+struct Replay {
     desk: Desk,
-    block: &[u8],
-    held: &mut [u8],
-    room: &mut [u8],
-) -> io::Result<Desk> {
-    let mut page = [0u8; 4096];
-    let mut after = lines(rt, desk, block, held, room, &mut page)?;
-    print::flush(rt, &page, after.paper)?;
-    after.paper = 0;
-    Ok(after)
+    room: [u8; 300],
+    held: Held,
 }
 
-// A last line without an end counts as a line, if it has a byte.
-fn last<P: Print>(rt: &P, desk: Desk, held: &mut [u8], room: &mut [u8]) -> io::Result<()> {
-    if 0 < desk.used {
-        play(rt, desk, b"\n", held, room)?;
+impl Replay {
+    // The line that is held is played.
+    fn line<P: Print>(&mut self, rt: &P, page: &mut Page) -> io::Result<()> {
+        let mut bytes = [0u8; 300];
+        let e = self.held.event(&mut bytes);
+        self.desk.happens(rt, e, &bytes, &mut self.room, page)
     }
-    Ok(())
+
+    // The lines that end in a block, and the part of one behind them.
+    fn lines<P: Print>(&mut self, rt: &P, block: &[u8], page: &mut Page) -> io::Result<()> {
+        for part in block.split_inclusive(|b| *b == b'\n') {
+            match part {
+                [line @ .., b'\n'] => {
+                    self.held.append(line);
+                    self.line(rt, page)?;
+                }
+                _ => self.held.append(part),
+            }
+        }
+        Ok(())
+    }
+
+    // A last line without an end counts as a line, if it has a byte.
+    fn last<P: Print>(&mut self, rt: &P, page: &mut Page) -> io::Result<()> {
+        if 0 < self.held.used {
+            self.line(rt, page)?;
+        }
+        page.flush(rt)
+    }
 }
 
-// The next bytes of the input, in front of a block; none at its end. A read that fails takes nothing from the input.
-fn read<R: Read>(input: &mut R, block: &mut [u8]) -> io::Result<usize>
-    ensures ok { IfOk result (λ n. n ≤ length block.old) }
-    ensures err { OnErr result (Keeps (R.remaining input.old) (R.remaining input.new)) }
-{
-    input.read(block)
-}
-
-// The turns that are left after one that read so many bytes: none at the end of the input.
-fn left(turns: u64, n: usize) -> u64
-    requires { 0 < turns }
-    ensures { result < turns }
-{
-    if n == 0 { 0 } else { turns - 1 }
-}
-
-// A proved loop has to end, and nothing says that the input does: the turns count down from a number that no run uses up.
-fn main(rt: HostRuntime) -> io::Result<()> {
-    let mut input = rt.stdin();
-    let mut held = [0u8; LONGEST];
-    let mut room = [0u8; 300];
+// One read, and the trace of the lines that have ended then, written before the next read. Answers whether there may be more to read. (otlist, otdecode and otreplay
+// each have one; one function over what takes a block would have state and page in a closure, and be no plainer.)
+fn play_some<R: Read, P: Print>(
+    stdin: &mut R,
+    rt: &P,
+    replay: &mut Replay,
+    page: &mut Page,
+) -> io::Result<bool> {
     let mut block = [0u8; 4096];
-    let mut desk = desk::fresh();
-    let mut turns = u64::MAX;
-    while turns > 0 {
-        let n = read(&mut input, &mut block)?;
-        desk = play(&rt, desk, &block[..n], &mut held, &mut room)?;
-        turns = left(turns, n);
-    }
-    last(&rt, desk, &mut held, &mut room)
+    let n = stdin.read(&mut block)?;
+    replay.lines(rt, &block[..n], page)?;
+    page.flush(rt)?;
+    Ok(n != 0)
+}
+
+fn main(rt: HostRuntime) -> io::Result<()> {
+    let mut stdin = rt.stdin();
+    let mut room = [0u8; 4096];
+    let mut page = Page::over(&mut room);
+    let mut replay = Replay {
+        desk: Desk::fresh(),
+        room: [0; 300],
+        held: Held::nothing(),
+    };
+    input::while_more(|| play_some(&mut stdin, &rt, &mut replay, &mut page))?;
+    replay.last(&rt, &mut page)
 }

@@ -1,14 +1,8 @@
--- What is used of the room is at most its length, which stays; the measure is what is left of the block.
+-- The invariant of `otencode::encode`: the samples of the words so far stand in front.
 -- Assumes nothing.
-use Rattle.std.proofs.Common.{◌-◌, ◌≤◌, length}
+use Rattle.std.proofs.Common.{◌≡◌, ◌*◌, take}
+use Rattle.otencode.specs.Encoded.{encoded}
 use Rattle.otencode.proofs.encode.Given as goal
 
-abbrev pub invariant-loop-at : goal.invariant-loop-at
-invariant-loop-at g l = record {
-  read : l.at ≤ length l.block;
-  used : l.used ≤ length l.room;
-  long : 680 ≤ length l.room;
-}
-
-abbrev pub decreases-loop-at : goal.decreases-loop-at
-decreases-loop-at g l = length l.block - l.at
+abbrev pub invariant-loop-k : goal.invariant-loop-k
+invariant-loop-k l = take (l.k * 680) l.room ≡ encoded l.k l.words

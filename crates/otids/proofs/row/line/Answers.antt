@@ -18,7 +18,7 @@ returns c = rw (
   ← c.push-a.ensures,
   ← c.hex.ensures,
   ← c.push-b.ensures,
-  ← c.name.ensures,
+  ← c.named.ensures,
   ← c.push-c.ensures,
   ← c.scale.ensures,
   ← c.push-d.ensures,

@@ -22,7 +22,7 @@ returns c = rw (
   ← c.push-b.ensures,
   ← c.hex.ensures,
   ← c.push-c.ensures,
-  ← c.name.ensures,
+  ← c.named.ensures,
   ← c.push-d.ensures,
   ← c.numbers.ensures,
 ) c.push.ensures

@@ -1,6 +1,6 @@
 -- `otreplay::paper::ticked` meets its contract: the lines one after the other.
 -- Assumes nothing.
-use Rattle.std.proofs.lemmas.Result.{IfOk-weaker, on_err_weaker, MatchResult-from_err}
+use Rattle.std.proofs.lemmas.Result.{on_ok_weaker, on_err_weaker, MatchResult-from_err}
 use Rattle.print.proofs.Added.{then, one_line}
 use Rattle.print.proofs.Broken.{at_first, later}
 use Rattle.otreplay.specs.Printed.{tick_trace}
@@ -9,46 +9,51 @@ use Rattle.otreplay.proofs.paper.ticked.Goals as goal
 pub returns-clause-ok : goal.returns-clause-ok
 unfolding tick_trace
 returns-clause-ok g c =
-    IfOk-weaker c.add.result _ _
-    (λ n p. then _ _ _ _ _ c.in_ok-a.ensures.ok
-    (then _ _ _ _ _ c.in_ok-b.ensures.ok
-    (then _ _ _ _ _ c.in_ok-c.ensures.ok
-    (then _ _ _ _ _ c.in_ok-d.ensures.ok (one_line _ _ _ _ p c.told.ensures)))))
-    c.add.ensures.ok
+    rw (← c.sent.ensures, ← c.sent-2.ensures, ← c.sent-3.ensures, ← c.sent-4.ensures)
+    (on_ok_weaker c.add.result
+    (λ p. then _ _ _ _ _ c.in_ok-add_some.ensures.ok
+    (then _ _ _ _ _ c.in_ok-add_some-2.ensures.ok
+    (then _ _ _ _ _ c.in_ok-add_some-3.ensures.ok
+    (then _ _ _ _ _ c.in_ok-add_some-4.ensures.ok (one_line _ _ _ _ p c.told.ensures)))))
+    c.add.ensures.ok)
 
-pub returns-in_err-a-clause-err : goal.returns-in_err-a-clause-err
+pub returns-in_err-add_some-clause-err : goal.returns-in_err-add_some-clause-err
 unfolding tick_trace
-returns-in_err-a-clause-err g c =
+returns-in_err-add_some-clause-err g c =
     MatchResult-from_err c.from_residual.result _ _ c.from_residual.ensures.0
-    (λ e. at_first _ _ _ c.in_err-a.ensures.err)
+    (λ e. at_first _ _ _ c.in_err-add_some.ensures.err)
 
-pub returns-in_err-b-clause-err : goal.returns-in_err-b-clause-err
+pub returns-in_err-add_some-2-clause-err : goal.returns-in_err-add_some-2-clause-err
 unfolding tick_trace
-returns-in_err-b-clause-err g c =
-    MatchResult-from_err c.from_residual-in_err-b.result _ _ c.from_residual-in_err-b.ensures.0
-    (λ e. later _ _ _ _ _ c.in_ok-a.ensures.ok (at_first _ _ _ c.in_err-b.ensures.err))
+returns-in_err-add_some-2-clause-err g c =
+    rw (← c.sent.ensures)
+    (MatchResult-from_err c.from_residual-in_err-add_some-2.result _ _ c.from_residual-in_err-add_some-2.ensures.0
+    (λ e. later _ _ _ _ _ c.in_ok-add_some.ensures.ok (at_first _ _ _ c.in_err-add_some-2.ensures.err)))
 
-pub returns-in_err-c-clause-err : goal.returns-in_err-c-clause-err
+pub returns-in_err-add_some-3-clause-err : goal.returns-in_err-add_some-3-clause-err
 unfolding tick_trace
-returns-in_err-c-clause-err g c =
-    MatchResult-from_err c.from_residual-in_err-c.result _ _ c.from_residual-in_err-c.ensures.0
-    (λ e. later _ _ _ _ _ c.in_ok-a.ensures.ok
-    (later _ _ _ _ _ c.in_ok-b.ensures.ok (at_first _ _ _ c.in_err-c.ensures.err)))
+returns-in_err-add_some-3-clause-err g c =
+    rw (← c.sent.ensures, ← c.sent-2.ensures)
+    (MatchResult-from_err c.from_residual-in_err-add_some-3.result _ _ c.from_residual-in_err-add_some-3.ensures.0
+    (λ e. later _ _ _ _ _ c.in_ok-add_some.ensures.ok
+    (later _ _ _ _ _ c.in_ok-add_some-2.ensures.ok (at_first _ _ _ c.in_err-add_some-3.ensures.err))))
 
-pub returns-in_err-d-clause-err : goal.returns-in_err-d-clause-err
+pub returns-in_err-add_some-4-clause-err : goal.returns-in_err-add_some-4-clause-err
 unfolding tick_trace
-returns-in_err-d-clause-err g c =
-    MatchResult-from_err c.from_residual-in_err-d.result _ _ c.from_residual-in_err-d.ensures.0
-    (λ e. later _ _ _ _ _ c.in_ok-a.ensures.ok
-    (later _ _ _ _ _ c.in_ok-b.ensures.ok
-    (later _ _ _ _ _ c.in_ok-c.ensures.ok (at_first _ _ _ c.in_err-d.ensures.err))))
+returns-in_err-add_some-4-clause-err g c =
+    rw (← c.sent.ensures, ← c.sent-2.ensures, ← c.sent-3.ensures)
+    (MatchResult-from_err c.from_residual-in_err-add_some-4.result _ _ c.from_residual-in_err-add_some-4.ensures.0
+    (λ e. later _ _ _ _ _ c.in_ok-add_some.ensures.ok
+    (later _ _ _ _ _ c.in_ok-add_some-2.ensures.ok
+    (later _ _ _ _ _ c.in_ok-add_some-3.ensures.ok (at_first _ _ _ c.in_err-add_some-4.ensures.err)))))
 
 pub returns-clause-err : goal.returns-clause-err
 unfolding tick_trace
 returns-clause-err g c =
-    on_err_weaker c.add.result
-    (λ e. later _ _ _ _ _ c.in_ok-a.ensures.ok
-    (later _ _ _ _ _ c.in_ok-b.ensures.ok
-    (later _ _ _ _ _ c.in_ok-c.ensures.ok
-    (later _ _ _ _ _ c.in_ok-d.ensures.ok (at_first _ _ _ e)))))
-    c.add.ensures.err
+    rw (← c.sent.ensures, ← c.sent-2.ensures, ← c.sent-3.ensures, ← c.sent-4.ensures)
+    (on_err_weaker c.add.result
+    (λ e. later _ _ _ _ _ c.in_ok-add_some.ensures.ok
+    (later _ _ _ _ _ c.in_ok-add_some-2.ensures.ok
+    (later _ _ _ _ _ c.in_ok-add_some-3.ensures.ok
+    (later _ _ _ _ _ c.in_ok-add_some-4.ensures.ok (at_first _ _ _ e)))))
+    c.add.ensures.err)

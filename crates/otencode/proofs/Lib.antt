@@ -1,0 +1,2 @@
+-- One more word's samples in a room.
+mod Behind

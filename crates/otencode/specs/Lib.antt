@@ -1,0 +1,2 @@
+-- What a reader must believe of otencode's samples.
+pub mod Encoded
