@@ -54,9 +54,9 @@ def called(program, start, data):
 
 
 def named(start, data):
-    """The addresses that code names by how far they are from the next instruction."""
+    """The addresses that code names by how far they are from the next instruction. What `and` takes of the polynomial reads alike, and is none."""
     for at in range(1, len(data) - 3):
-        if data[at - 1] & 0xC7 == 0x05:
+        if data[at - 1] & 0xC7 == 0x05 and data[at : at + 4] != b"\x01\xa0\xff\xff":
             yield start + at + 4 + struct.unpack_from("<i", data, at)[0]
 
 
