@@ -1,34 +1,21 @@
--- `gateway::Gateway::thermostat` meets its contract: the frame's own line takes it.
+-- `gateway::Gateway::thermostat` meets its contract: the frame's own line takes it, and what is told is what it says.
 -- Assumes nothing.
-use Rattle.std.proofs.Common.{◌≡◌, sym, ap, ◌∙◌, length, rules}
-use Rattle.turns.specs.Line.{Line}
+use Rattle.std.proofs.Common.{◌≡◌, sym, ◌∙◌, length, rules}
 use Rattle.turns.specs.Turns as turns
-use Rattle.line.specs.Reads.{as_step}
-use Rattle.promises.specs.Settle.{plain_of}
-use Rattle.promises.specs.Entries.{thermostat_step, thermostat_of}
-use Rattle.gateway.specs.Reads.{box_of}
+use Rattle.promises.specs.Entries.{thermostat_of}
 use Rattle.promises.proofs.Numbers.{inside_four}
-use Rattle.gateway.proofs.Index.{unmapped, own_line, stored}
+use Rattle.gateway.proofs.Index.{unmapped, own_step, stored}
 use Rattle.gateway.proofs.Gateway.thermostat.Goals as goal
 
 pub returns : goal.returns
 unfolding thermostat_of
 returns c =
     let a = c.args in
-    let l = a.self.lines in
-    let four : length l ≡ 4 = search (rules, unmapped) in
-    let i = c.place-i.result in
-    let at = c.place-i.ensures.0 in
-    let step = c.thermostat-step in
+    let four : length a.self.lines ≡ 4 = search (rules, unmapped) in
     let inside = sym c.inside.ensures ∙ c.if-not-inside.false in
-    -- the frame's own line took it
-    let own : as_step step.result ≡ thermostat_step (box_of a.self) a.line a.frame =
-    step.ensures ∙ ap (λ (l : Line). turns.thermostat_of l a.frame) (own_line l i a.line at) in
-    -- and what is told is what it says
-    let told : c.plain.result ≡ plain_of step.result.said = c.plain.ensures in
     rw (
       inside,
-      ← own,
-      stored l i a.line step.result.line at four (inside_four a.line inside),
-      ← told,
+      ← (own_step a.self.lines _ a.line (λ l. turns.thermostat_of l a.frame) c.thermostat-step.result c.place-i.ensures.0 c.thermostat-step.ensures),
+      stored a.self.lines _ a.line c.thermostat-step.result.line c.place-i.ensures.0 four (inside_four a.line inside),
+      ← c.plain.ensures,
     )
