@@ -8,15 +8,15 @@ use Prim.Native.Nat.{ℕ, suc, ◌+◌, ◌-◌, ◌^◌, ◌≤◌, ◌<◌, mi
 use native.Mathlib.Omega.{arith}
 use lib.ListN.{length, length-append, drop, replicate, replicate-append-replicate}
 use Rattle.word.specs.declared.Frame.{Frame}
-use Rattle.refusals.specs.declared.Refusal.TheVariants.{NoEdge}
 use Rattle.samples.specs.declared.Answer.{Answer}
 use Rattle.samples.specs.declared.Answer.TheVariants as answer
 use Rattle.samples.specs.Reader.{Reader}
-use Rattle.samples.specs.Answers.{frame}
+use Rattle.samples.specs.Answers.{WithRefusal, late, frame}
 use Rattle.samples.specs.Reading.{fresh_of, waited_of, start_of, middle_of, next_of, step_of}
 use Rattle.samples.specs.Run.{answers_of, after_of, none}
 use Rattle.samples.specs.Edges.{Stretch, Allowed, AllAllowed, turned, level_after, stretches_samples, signal_of, FrameOf}
 use Rattle.samples.specs.Written.{in_samples, bits_of, samples_of}
+use Rattle.samples.proofs.Steps.{refusal_in}
 use Rattle.samples.proofs.Runs.{answers_append, after_append}
 use Rattle.samples.proofs.Settles.{waiting, waits_on, settles}
 use Rattle.samples.proofs.Tolerant.{tolerant}
@@ -75,6 +75,6 @@ recovers_line r s l t gs hs hl ht len falls =
 
 -- 48 aren't enough: a line that falls silent after 8 active samples. The 25th idle sample is refusal 2, 23 are left, and the frame of P1
 -- after them is not read.
-pub tight : answers_of fresh_of (replicate 24 0 ++ (replicate 8 1 ++ (replicate 48 0 ++ samples_of 0x8019_0000))) ≡ none 56 ++ (answer.Refused NoEdge ∷ none 703)
+pub tight : WithRefusal 2 (λ x. answers_of fresh_of (replicate 24 0 ++ (replicate 8 1 ++ (replicate 48 0 ++ samples_of 0x8019_0000))) ≡ none 56 ++ (x ∷ none 703))
 unfolding answers_of step_of waited_of start_of middle_of next_of samples_of in_samples bits_of
-tight = refl
+tight = (refusal_in late, refl, refl)

@@ -7,10 +7,12 @@ use native.Mathlib.Omega.{arith}
 use lib.Dec.{leb, ltb, eqb}
 use Rattle.word.specs.declared.Frame.{Frame}
 use Rattle.refusals.specs.declared.Refusal.{Refusal}
+use Rattle.refusals.specs.declared.Refusal.TheVariants.{NoLevel}
 use Rattle.refusals.specs.Numbers.{number_of}
 use Rattle.samples.specs.declared.Middle.{Middle}
 use Rattle.samples.specs.declared.Phase.{Phase}
 use Rattle.samples.specs.declared.Phase.TheVariants.{Waiting, Start, Bits}
+use Rattle.samples.specs.declared.Answer.{Answer}
 use Rattle.samples.specs.declared.Answer.TheVariants as answer
 use Rattle.samples.specs.Reader.{Reader, Step}
 use Rattle.samples.specs.Reading.{goes_on, gives, within, start_of, middle_of, next_of, taken_by, step_of}
@@ -49,3 +51,9 @@ module _ (P : Step → Type 0) (on : (p : Phase) → P (goes_on p)) (frame : (f 
   pub every : (r : Reader) (s : ℕ) → P (step_of r s)
   unfolding step_of
   every r s = either (leb 2 s) _ _ (refused _ (omega arith) (omega arith)) (taken r.phase (eqb s 1))
+
+-- the refusal that an answer is
+abbrev pub refusal_in : Answer → Refusal
+refusal_in (answer.Refused r) = r
+refusal_in answer.Nothing = NoLevel
+refusal_in (answer.Frame f) = NoLevel

@@ -1,6 +1,7 @@
--- The answers of the sample reader, with 01's numbers ('Numbered answers'). The rules name them; the promises say which refusal it is.
+-- The answers of the sample reader, with 01's numbers ('Numbered answers'). The rules name them; the promises say the numbers themselves.
 -- Assumes nothing: these are definitions.
-use Rattle.std.specs.Prelude.{ℕ}
+use Rattle.std.specs.Prelude.{◌≡◌, ℕ}
+use Rattle.refusals.specs.declared.Refusal.{Refusal}
 use Rattle.refusals.specs.declared.Refusal.TheVariants.{EarlyEdge, NoEdge, NoStopBit, NoLevel}
 use Rattle.refusals.specs.Numbers as refusal
 use Rattle.samples.specs.declared.Answer.{Answer}
@@ -11,6 +12,10 @@ abbrev pub number_of : Answer → ℕ
 number_of Nothing = 0
 number_of (Frame f) = 0
 number_of (Refused r) = refusal.number_of r
+
+-- it is so of the refusal with this number
+abbrev pub WithRefusal : ℕ → (Answer → Type 0) → Type 0
+WithRefusal n So = (r : Refusal) × So (Refused r) × (number_of (Refused r) ≡ n)
 
 -- "1, 2, 3, 4: samples, as above": an edge before its time, no middle edge in time, a 34th that rises, a sample of 2 to 255
 abbrev pub early : Answer
