@@ -1,7 +1,6 @@
 -- The name by a number is that of the kind which the number stands for.
 -- Assumes nothing.
-use Rattle.std.proofs.Common.{ℕ, ◌≡◌, refl, Bool, true, false, cond, List, eqb}
-use Rattle.ids.specs.declared.Kind.{Kind}
+use Rattle.std.proofs.Common.{ℕ, ◌≡◌, refl, Bool, true, false, cond, eqb}
 use Rattle.ids.specs.declared.Kind.TheVariants.{Raw, Real, S16, U16, Pair, SPair}
 use Rattle.ids.specs.Ids.{kind_from}
 use Rattle.kinds.specs.Names.{name_of, name_by}

@@ -1,40 +1,18 @@
--- Laws of text: bytes are put in parts, a decimal is what std writes of a number, and an empty line says what was put into it.
+-- Laws of text: bytes are put in parts, a decimal goes digit by digit and is what std writes of a number, and an empty line says what was put into
+-- it.
 -- Assumes nothing.
-use Rattle.std.proofs.Common.{
-  ◌≡◌,
-  ℕ,
-  zero,
-  suc,
-  ◌+◌,
-  ◌-◌,
-  ◌*◌,
-  ◌/◌,
-  ◌%◌,
-  ◌^◌,
-  ◌≤◌,
-  ◌<◌,
-  Bool,
-  true,
-  false,
-  cond,
-  List,
-  [],
-  ◌∷◌,
-  ◌++◌,
-  length,
-  refl,
-  sym,
-  ap,
-  ◌∙◌,
-  append_assoc,
-  length-append,
-  arith,
-  rules,
-}
-use mathlib.Core.List.{append-nil}
+use mathlib.Core.Path.{◌≡◌, refl, sym, ap, ◌∙◌}
+use mathlib.Core.Bool.{Bool, true, false, cond}
+use mathlib.Core.List.{List, [], ◌∷◌, ◌++◌, append-nil}
+use Prim.Native.Nat.{ℕ, zero, suc, ◌+◌, ◌-◌, ◌*◌, ◌/◌, ◌%◌, ◌^◌, ◌≤◌, ◌<◌}
 use native.Mathlib.Nat.{pow-suc}
+use native.Mathlib.Numerals.{add-one}
+use native.Mathlib.Omega.{arith}
 use borrow.Author.Tests.{lt-ltb, le-ltb, ltb-true, ltb-false}
 use lib.Dec.{ltb}
+use lib.ListN.{length, take, set, length-append, length-set}
+use lib.Seq.{take-suc-set, append_snoc}
+use Rattle.std.proofs.Common.{rules}
 use Rattle.std.specs.Fmt.{decimal}
 use Rattle.std.proofs.lemmas.Fmt.{AppendsLastDigit, decimal_from_appends, length-decimal-le_succ}
 use Rattle.text.specs.declared.Text.{Text}
@@ -78,12 +56,12 @@ fewer (suc k) (suc m) n h g = go (ltb n 10) refl (λ big. fewer k m (n / 10) (om
     go false e r = ap (λ (l : List ℕ). l ++ (digit (n % 10) ∷ [])) (r (ltb-false n 10 e))
 
 -- below ten a decimal is one digit
-decimal_one : (n : ℕ) → n < 10 → decimal_of n ≡ digit n ∷ []
+pub decimal_one : (n : ℕ) → n < 10 → decimal_of n ≡ digit n ∷ []
 unfolding decimal_of digits_in
 decimal_one n h = rw (lt-ltb n 10 h)
 
 -- from ten on it is that of the tenth and one digit more
-decimal_more : (n : ℕ) → 10 ≤ n → decimal_of n ≡ decimal_of (n / 10) ++ (digit (n % 10) ∷ [])
+pub decimal_more : (n : ℕ) → 10 ≤ n → decimal_of n ≡ decimal_of (n / 10) ++ (digit (n % 10) ∷ [])
 unfolding decimal_of digits_in
 decimal_more n h =
     rw (le-ltb n 10 h) (ap (λ (l : List ℕ). l ++ (digit (n % 10) ∷ [])) (fewer n (suc (n / 10)) (n / 10) (omega arith) (omega arith)))
@@ -113,15 +91,35 @@ unfolding hex_of
 hex_length zero n = refl
 hex_length (suc k) n = let shorter = hex_length k (n / 16) in rw length-append (omega arith)
 
--- what there is room for is all put
-fits : (t s : List ℕ) → length t + length s ≤ 120 → puts t s ≡ t ++ s
-unfolding puts pushed
-fits t [] h = sym (append-nil t)
-fits t (x ∷ s) h =
-    let more : length (t ++ (x ∷ [])) + length s ≤ 120 = rw length-append (omega arith) in
-    rw (lt-ltb (length t) 120 (omega arith)) (fits (t ++ (x ∷ [])) s more ∙ append_assoc t (x ∷ []) s)
+-- a line that says l, with room for more
+record Holds (t : Text) (l : List ℕ) : Type 0 where
+  whole : length t.bytes ≡ 120
+  count : t.len ≡ length l
+  says_it : says t ≡ l
+
+hold_more : (t : Text) (l : List ℕ) (x : ℕ) → length l < 120 → Holds t l → Holds (pushed t x) (l ++ (x ∷ []))
+unfolding pushed
+hold_more t l x h w =
+    let room : t.len < 120 = omega (arith, w.count) in
+    rw (lt-ltb t.len 120 room)
+    (record {
+      whole = length-set t.bytes t.len x ∙ w.whole;
+      count = ap (λ (n : ℕ). n + 1) w.count ∙ sym (length-append l (x ∷ []));
+      says_it =
+          ap (λ (n : ℕ). take n (set t.bytes t.len x)) (add-one t.len)
+          ∙ take-suc-set t.bytes t.len x (omega (arith, w.whole))
+          ∙ ap (λ (s : List ℕ). s ++ (x ∷ [])) w.says_it;
+    })
+
+holds : (t : Text) (l s : List ℕ) → length l + length s ≤ 120 → Holds t l → Holds (puts t s) (l ++ s)
+unfolding puts
+holds t l [] h w = rw append-nil w
+holds t l (x ∷ s) h w =
+    let more = hold_more t l x (omega arith) w in
+    let fits : length (l ++ (x ∷ [])) + length s ≤ 120 = rw length-append (omega arith) in
+    rw append_snoc at (holds (pushed t x) (l ++ (x ∷ [])) s fits more)
 
 -- an empty line says what is put into it, up to 120 bytes
 pub says_puts : (s : List ℕ) → length s ≤ 120 → says (puts empty_text s) ≡ s
 unfolding empty_text
-says_puts s h = fits [] s (omega arith)
+says_puts s h = (holds empty_text [] s (omega arith) (record { whole = refl; count = refl; says_it = refl })).says_it

@@ -1,24 +1,24 @@
 -- Text in ASCII: bytes put one after the other into a line of at most 120, and numbers as digits.
 -- Assumes nothing: these are definitions.
-use Rattle.std.specs.Prelude.{ℕ, zero, suc, ◌+◌, ◌/◌, ◌%◌, cond, List, [], ◌∷◌, ◌++◌, ltb, length}
-use Rattle.std.specs.List.{fold}
+use Rattle.std.specs.Prelude.{ℕ, zero, suc, ◌+◌, ◌/◌, ◌%◌, cond, List, [], ◌∷◌, ◌++◌, ltb, set, take, replicate}
 use Rattle.text.specs.declared.Text.{Text}
 
 -- an empty line
 unfoldable pub empty_text : Text
-empty_text = []
+empty_text = record { bytes = replicate 120 0; len = 0 }
 
 -- one byte more; a full line stays as it is
 unfoldable pub pushed : Text → ℕ → Text
-pushed t b = cond (ltb (length t) 120) (t ++ (b ∷ [])) t
+pushed t b = cond (ltb t.len 120) (record { bytes = set t.bytes t.len b; len = t.len + 1 }) t
 
 -- the bytes of a list, one after the other
 unfoldable pub puts : Text → List ℕ → Text
-puts t s = fold pushed t s
+puts t [] = t
+puts t (b ∷ s) = puts (pushed t b) s
 
--- what a line says: its bytes, which are all that a contract sees of it
+-- what a line says
 abbrev pub says : Text → List ℕ
-says t = t
+says t = take t.len t.bytes
 
 -- a digit of base ten, and of base sixteen in capitals
 abbrev pub digit : ℕ → ℕ

@@ -4,56 +4,65 @@
 ghost use Rattle.std.specs.Prelude.{◌≡◌, ◌<◌};
 ghost use Rattle.text.specs.Text.{empty_text, pushed, puts, says, hex_digit, decimal_of, hex_of};
 
-use arrayvec::ArrayVec;
-use itoa::Buffer;
-use std::marker::Model;
-
-// At most 120 bytes; contracts see them as a list.
-#[derive(Drop)]
+// The bytes of a line, the first `len` of them used. No vector of fixed room: the library's is no `Copy`, and a line is.
+#[derive(Clone, Copy)]
 pub struct Text {
-    bytes: ArrayVec<u8, 120>,
-}
-
-impl Model for Text {
-    ghost use Rattle.std.specs.Prelude.{ℕ, List};
-
-    ghost Value = { List ℕ };
-
-    ghost view = { λ t. t.bytes.items };
+    pub bytes: [u8; 120],
+    pub len: usize,
 }
 
 impl Text {
+    const ROOM: usize = 120;
+
     #[tactic(auto, unfolding(crate::specs::Text::empty_text))]
     pub fn empty() -> Self
         ensures { result ≡ empty_text }
     {
         Text {
-            bytes: ArrayVec::new(),
+            bytes: [0; 120],
+            len: 0,
         }
     }
 
-    // One byte more; a full line stays as it is.
+    // One byte more, in place: by value a line would be copied for each byte. A full line stays as it is.
     #[tactic(auto, unfolding(crate::specs::Text::pushed))]
+    fn append(&mut self, b: u8)
+        ensures { self.new ≡ pushed self.old b }
+    {
+        let at = self.len;
+        if at < Text::ROOM {
+            self.bytes[at] = b;
+            self.len = at + 1;
+        }
+    }
+
     pub fn push(mut self, b: u8) -> Self
         ensures { result ≡ pushed self b }
     {
-        let _ = self.bytes.try_push(b);
+        self.append(b);
         self
     }
 
     #[tactic(auto, unfolding(crate::specs::Text::puts))]
-    pub fn put(self, s: &[u8]) -> Self
+    pub fn put(mut self, s: &[u8]) -> Self
         ensures { result ≡ puts self s.now }
     {
-        s.iter().copied().fold(self, Text::push)
+        for &b in s {
+            self.append(b);
+        }
+        self
     }
 
-    // A number in decimal. No `write!` of it here: where that fails it promises nothing, and no contract says that it doesn't fail.
-    #[tactic(auto, using(crate::proofs::Puts::decimal_is))]
+    // A number in decimal, digit by digit: a `write!` of it promises nothing where it fails, and no contract says that it doesn't.
     pub fn decimal(self, n: u64) -> Self
         ensures { result ≡ puts self (decimal_of n) }
     {
-        self.put(Buffer::new().format(n).as_bytes())
+        if n < 10 {
+            self.push(n as u8 + 48)
+        } else {
+            let t = self.decimal(n / 10);
+            t.push((n % 10) as u8 + 48)
+        }
     }
 
     // The last `count` digits of a number in hexadecimal, zeros in front too. No `write!`, as above.
@@ -71,7 +80,7 @@ impl Text {
     pub fn as_bytes(&self) -> &[u8]
         ensures { result.now ≡ says self.now }
     {
-        self.bytes.as_slice()
+        &self.bytes[..self.len.min(Text::ROOM)]
     }
 }
 
