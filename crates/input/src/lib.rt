@@ -2,9 +2,11 @@
 // one of the read, or of the turn, that failed.
 #![tactic(auto)]
 
-ghost use Rattle.std.specs.Prelude.{◌≡◌, ℕ, ◌-◌, ◌^◌, ◌<◌, ◌⊎◌, take, length, Ok, Err, IfOk, IfErr, OnOk, OnErr, false};
+ghost use Rattle.std.specs.Prelude.{◌≡◌, ℕ, Bool, ◌-◌, ◌^◌, ◌<◌, ◌⊎◌, ⊤, take, length, Ok, Err, IfOk, IfErr, OnOk, OnErr, false};
 ghost use Rattle.std.specs.Io.{ReadsAtMost};
 ghost use Rattle.std.specs.Io.KnownBytes.{Consumes, IsAtEnd};
+ghost use Rattle.std.specs.declared.io.Error.{Error};
+ghost use Rattle.std.specs.declared.result.Result.{Result};
 ghost use Rattle.input.specs.Turns.{Goes, Ends};
 
 use std::io;
@@ -31,16 +33,25 @@ pub fn read_full<R: Read>(input: &mut R, room: &mut [u8]) -> io::Result<usize>
     Ok(done)
 }
 
+// What a program does over and over.
+pub trait Turn {
+    // what a turn may answer, and how it leaves what takes the turns
+    ghost gives: { Self → Result Bool Error → Self → Type 0 } = { λ _ _ _. ⊤ };
+
+    // One turn, which answers whether there may be another.
+    fn turn(&mut self) -> io::Result<bool>
+        ensures { gives self.old result self.new };
+}
+
 // Takes one turn after the other, until one says that there is no more, or fails. A proved loop has to end, and nothing says that the input does:
 // there are more turns than any run uses up.
-pub fn while_more<F: FnMut() -> io::Result<bool>>(mut turn: F) -> io::Result<()>
-    requires { F.IsAlwaysCallable turn }
-    ensures ok { OnOk result ((n : ℕ) × (last : F)
-        × (Ends F.step turn n (Ok false) last ⊎ (Goes F.step turn n last × (n ≡ 2 ^ 64 - 1)))) }
-    ensures err { IfErr result (λ e. (n : ℕ) × (last : F) × Ends F.step turn n (Err e) last) }
+pub fn while_more<T: Turn>(turns: &mut T) -> io::Result<()>
+    ensures ok { OnOk result ((n : ℕ)
+        × (Ends T.gives turns.old n (Ok false) turns.new ⊎ (Goes T.gives turns.old n turns.new × (n ≡ 2 ^ 64 - 1)))) }
+    ensures err { IfErr result (λ e. (n : ℕ) × Ends T.gives turns.old n (Err e) turns.new) }
 {
     for _ in 0..u64::MAX {
-        if !turn()? {
+        if !turns.turn()? {
             return Ok(());
         }
     }

@@ -10,10 +10,11 @@ ghost use Rattle.samples.specs.Run.{answers_of, after_of};
 ghost use Rattle.reader.specs.Reads.{reader_of};
 ghost use Rattle.print.specs.Page.{all_added, BrokenOff};
 ghost use Rattle.print.specs.Reads.{page_of};
-ghost use Rattle.otdecode.specs.Lines.{shown_in, last_place};
+ghost use Rattle.otdecode.specs.Lines.{shown_if, shown_in, last_place};
 
+use input::Turn;
 use print::Page;
-use reader::Reader;
+use reader::{Answer, Reader};
 use std::io;
 use std::io::Read;
 
@@ -22,6 +23,18 @@ use std::io::Read;
 struct Place {
     reader: Reader,
     index: u64,
+}
+
+// The line of an answer on a page, if it has one. No `Option` of a line for a sample without: it would be made and copied for each.
+#[tactic(auto, unfolding(crate::specs::Lines::shown_if, print::specs::Page::all_added))]
+fn add_line<P: Print>(rt: &P, page: &mut Page, index: u64, answer: Answer) -> io::Result<()>
+    ensures ok { OnOk result (page_of page.new ≡ all_added (page_of page.old) (shown_if index answer)) }
+    ensures err { OnErr result (page_of page.new ≡ page_of page.old) }
+{
+    match answer {
+        Answer::Nothing => Ok(()),
+        Answer::Frame(_) | Answer::Refused(_) => page.add_some(rt, line::line(index, answer)),
+    }
 }
 
 impl Place {
@@ -40,7 +53,7 @@ impl Place {
     {
         for &sample in block {
             let step = self.reader.step(sample);
-            page.add_some(rt, line::line(self.index, step.answer))?;
+            add_line(rt, page, self.index, step.answer)?;
             self.reader = step.reader;
             self.index = self.index.wrapping_add(1);
         }
@@ -48,28 +61,37 @@ impl Place {
     }
 }
 
-// One read, and the lines of its samples, written before the next read. Answers whether there may be more to read. (otlist, otdecode and otreplay
-// each have one; one function over what takes a block would have state and page in a closure, and be no plainer.)
-fn decode_some<R: Read, P: Print>(
-    stdin: &mut R,
-    rt: &P,
-    place: &mut Place,
-    page: &mut Page,
-) -> io::Result<bool> {
-    let mut block = [0u8; 4096];
-    let n = stdin.read(&mut block)?;
-    place.take(rt, &block[..n], page)?;
-    page.flush(rt)?;
-    Ok(n != 0)
+// The samples that come, and the page for their lines.
+#[derive(Drop)]
+struct Decoding<'a, 'b, R, P> {
+    stdin: R,
+    rt: &'a P,
+    place: Place,
+    page: Page<'b>,
+}
+
+impl<R: Read, P: Print> Turn for Decoding<'_, '_, R, P> {
+    // One read, and the lines of its samples, written before the next read. (otlist, otdecode and otreplay each have such a turn; one over what
+    // takes a block would be no plainer.)
+    fn turn(&mut self) -> io::Result<bool> {
+        let mut block = [0u8; 4096];
+        let n = self.stdin.read(&mut block)?;
+        self.place.take(self.rt, &block[..n], &mut self.page)?;
+        self.page.flush(self.rt)?;
+        Ok(n != 0)
+    }
 }
 
 fn main(rt: HostRuntime) -> io::Result<()> {
-    let mut stdin = rt.stdin();
     let mut room = [0u8; 4096];
-    let mut page = Page::over(&mut room);
-    let mut place = Place {
+    let place = Place {
         reader: Reader::fresh(),
         index: 0,
     };
-    input::while_more(|| decode_some(&mut stdin, &rt, &mut place, &mut page))
+    input::while_more(&mut Decoding {
+        stdin: rt.stdin(),
+        rt: &rt,
+        place,
+        page: Page::over(&mut room),
+    })
 }

@@ -8,13 +8,14 @@
 ghost use Rattle.std.specs.Prelude.{◌≡◌, ◌*◌, ◌/◌, ◌≤◌, take, length};
 ghost use Rattle.otencode.specs.Encoded.{encoded};
 
+use input::Turn;
 use std::io;
 use std::io::Read;
 use writer::FRAME_SAMPLES;
 
 const WORD: usize = 4;
 
-// The words of a block, of which the samples go out in one write.
+// The words of which the samples go out in one write, or fewer at the end of a block.
 const WORDS: usize = 96;
 
 // Writes the samples of the words that are whole, one behind the other, in front in the room.
@@ -31,18 +32,30 @@ fn encode(words: &[u8], room: &mut [u8; WORDS * FRAME_SAMPLES])
     }
 }
 
-// A block is whole words but for the last, and whether it was the last is the answer.
-fn encode_some<R: Read, P: Print>(stdin: &mut R, rt: &P) -> io::Result<bool> {
-    let mut block = [0u8; WORDS * WORD];
-    let n = input::read_full(stdin, &mut block)?;
-    let mut room = [0u8; WORDS * FRAME_SAMPLES];
-    encode(&block[..n], &mut room);
-    rt.write_all(&room[..n / WORD * FRAME_SAMPLES])?;
-    Ok(n == block.len())
+#[derive(Drop)]
+struct Blocks<'a, R, P> {
+    stdin: R,
+    rt: &'a P,
 }
 
-// The same two lines as otreal's; a function of them would be no plainer.
+impl<R: Read, P: Print> Turn for Blocks<'_, R, P> {
+    // A block is whole words but for the last, and whether it was the last is the answer.
+    fn turn(&mut self) -> io::Result<bool> {
+        let mut block = [0u8; 4096];
+        let n = input::read_full(&mut self.stdin, &mut block)?;
+        let mut room = [0u8; WORDS * FRAME_SAMPLES];
+        for words in block[..n].chunks(WORDS * WORD) {
+            encode(words, &mut room);
+            self.rt
+                .write_all(&room[..words.len() / WORD * FRAME_SAMPLES])?;
+        }
+        Ok(n == block.len())
+    }
+}
+
 fn main(rt: HostRuntime) -> io::Result<()> {
-    let mut stdin = rt.stdin();
-    input::while_more(|| encode_some(&mut stdin, &rt))
+    input::while_more(&mut Blocks {
+        stdin: rt.stdin(),
+        rt: &rt,
+    })
 }

@@ -6,7 +6,7 @@ ghost use Rattle.otlist.specs.Listing.{signed_decimal, listed_numbers, listed_fi
 use ids::Kind;
 use text::Text;
 
-// By sign and size, as the definition has it; `itoa` prints an i16 too, and what it prints is said in std's words.
+// By sign and size, as the definition has it.
 #[tactic(auto, unfolding(crate::specs::Listing::signed_decimal, text::specs::Text::puts))]
 fn signed(t: Text, z: i16) -> Text
     ensures { result ≡ puts t (signed_decimal z) }

@@ -4,32 +4,42 @@
 mod listing;
 mod words;
 
+use input::Turn;
 use print::Page;
 use std::io;
 use std::io::Read;
 use words::Part;
 
-// One read, and the lines of the words that are whole then, written before the next read. Answers whether there may be more to read. (otlist, otdecode and otreplay
-// each have one; one function over what takes a block would have state and page in a closure, and be no plainer.)
-fn list_some<R: Read, P: Print>(
-    stdin: &mut R,
-    rt: &P,
-    part: &mut Part,
-    page: &mut Page,
-) -> io::Result<bool> {
-    let mut block = [0u8; 4096];
-    let n = stdin.read(&mut block)?;
-    part.take(rt, &block[..n], page)?;
-    page.flush(rt)?;
-    Ok(n != 0)
+// The words that come, and the page on which they are listed.
+#[derive(Drop)]
+struct WordList<'a, 'b, R, P> {
+    stdin: R,
+    rt: &'a P,
+    part: Part,
+    page: Page<'b>,
+}
+
+impl<R: Read, P: Print> Turn for WordList<'_, '_, R, P> {
+    // One read, and the lines of the words that are whole then, written before the next read. (otlist, otdecode and otreplay each have such a turn;
+    // one over what takes a block would be no plainer.)
+    fn turn(&mut self) -> io::Result<bool> {
+        let mut block = [0u8; 4096];
+        let n = self.stdin.read(&mut block)?;
+        self.part.take(self.rt, &block[..n], &mut self.page)?;
+        self.page.flush(self.rt)?;
+        Ok(n != 0)
+    }
 }
 
 fn main(rt: HostRuntime) -> io::Result<()> {
-    let mut stdin = rt.stdin();
     let mut room = [0u8; 4096];
-    let mut page = Page::over(&mut room);
-    let mut part = Part::default();
-    input::while_more(|| list_some(&mut stdin, &rt, &mut part, &mut page))?;
-    page.add_some(&rt, part.end())?;
-    page.flush(&rt)
+    let mut list = WordList {
+        stdin: rt.stdin(),
+        rt: &rt,
+        part: Part::default(),
+        page: Page::over(&mut room),
+    };
+    input::while_more(&mut list)?;
+    list.part.end(&rt, &mut list.page)?;
+    list.page.flush(&rt)
 }

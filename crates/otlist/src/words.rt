@@ -26,12 +26,16 @@ impl Part {
         self.count = (self.count % 4 + 1) % 4;
     }
 
-    // The line of a word that is whole.
-    #[tactic(auto, using(crate::proofs::Says::listed), unfolding(crate::specs::Words::line_if))]
-    fn line(self) -> Option<Text>
-        ensures { texts result ≡ line_if self.count self.word }
+    // The line of a word that is whole, on a page. No `Option` of a line: it would be made and copied for each byte.
+    #[tactic(auto, unfolding(crate::specs::Words::line_if, print::specs::Page::all_added))]
+    fn add_line<P: Print>(self, rt: &P, page: &mut Page) -> io::Result<()>
+        ensures ok { OnOk result (page_of page.new ≡ all_added (page_of page.old) (line_if self.count self.word)) }
+        ensures err { OnErr result (page_of page.new ≡ page_of page.old) }
     {
-        (self.count == 0).then(|| line(self.word))
+        if self.count != 0 {
+            return Ok(());
+        }
+        page.add(rt, line(self.word))
     }
 
     // The lines of the words that end in a block. Where a write fails the page stays as it was after the lines before.
@@ -48,16 +52,24 @@ impl Part {
     {
         for &b in block {
             self.push(b);
-            page.add_some(rt, self.line())?;
+            self.add_line(rt, page)?;
         }
         Ok(())
     }
 
     // The line for a word that has begun and does not end.
     #[tactic(auto, using(crate::proofs::Says::short_said), unfolding(crate::specs::Words::at_end))]
-    pub(crate) fn end(self) -> Option<Text>
+    fn tail(self) -> Option<Text>
         ensures { texts result ≡ at_end self.count }
     {
         (self.count != 0).then(short)
+    }
+
+    // That line, on a page.
+    pub(crate) fn end<P: Print>(self, rt: &P, page: &mut Page) -> io::Result<()>
+        ensures ok { OnOk result (page_of page.new ≡ all_added (page_of page.old) (at_end self.count)) }
+        ensures err { OnErr result (page_of page.new ≡ page_of page.old) }
+    {
+        page.add_some(rt, self.tail())
     }
 }

@@ -4,22 +4,32 @@
 
 mod lines;
 
+use input::Turn;
 use lines::line;
 use std::io;
 use std::io::Read;
 
-// Reads one pattern, prints its line, and answers whether there may be another.
-fn next<R: Read, P: Print>(stdin: &mut R, rt: &P) -> io::Result<bool> {
-    let mut bytes = [0u8; 4];
-    if input::read_full(stdin, &mut bytes)? < 4 {
-        return Ok(false);
-    }
-    print::print(rt, line(u32::from_be_bytes(bytes)))?;
-    Ok(true)
+#[derive(Drop)]
+struct Patterns<'a, R, P> {
+    stdin: R,
+    rt: &'a P,
 }
 
-// The same two lines as otencode's; a function of them would be no plainer.
+impl<R: Read, P: Print> Turn for Patterns<'_, R, P> {
+    // Reads one pattern, prints its line, and answers whether there may be another.
+    fn turn(&mut self) -> io::Result<bool> {
+        let mut bytes = [0u8; 4];
+        if input::read_full(&mut self.stdin, &mut bytes)? < 4 {
+            return Ok(false);
+        }
+        print::print(self.rt, line(u32::from_be_bytes(bytes)))?;
+        Ok(true)
+    }
+}
+
 fn main(rt: HostRuntime) -> io::Result<()> {
-    let mut stdin = rt.stdin();
-    input::while_more(|| next(&mut stdin, &rt))
+    input::while_more(&mut Patterns {
+        stdin: rt.stdin(),
+        rt: &rt,
+    })
 }

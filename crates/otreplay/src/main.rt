@@ -5,6 +5,7 @@ mod desk;
 mod paper;
 
 use desk::Desk;
+use input::Turn;
 use print::Page;
 use script::Event;
 use std::io;
@@ -13,7 +14,7 @@ use std::io::Read;
 const LONGEST: usize = 1024;
 
 // The script's line under way, as far as it has come. Of one that is longer than the room only the length is right:
-// an ArrayVec can't hold the length of a line that has no room in it.
+// no vector can hold the length of a line that has no room in it.
 #[derive(Drop)]
 struct Held {
     bytes: [u8; LONGEST],
@@ -86,30 +87,47 @@ impl Replay {
     }
 }
 
-// One read, and the trace of the lines that have ended then, written before the next read. Answers whether there may be more to read. (otlist, otdecode and otreplay
-// each have one; one function over what takes a block would have state and page in a closure, and be no plainer.)
-fn play_some<R: Read, P: Print>(
-    stdin: &mut R,
-    rt: &P,
-    replay: &mut Replay,
-    page: &mut Page,
-) -> io::Result<bool> {
-    let mut block = [0u8; 4096];
-    let n = stdin.read(&mut block)?;
-    replay.lines(rt, &block[..n], page)?;
-    page.flush(rt)?;
-    Ok(n != 0)
+// The script that comes, and the page for its trace.
+#[derive(Drop)]
+struct Playing<'a, 'b, R, P> {
+    stdin: R,
+    rt: &'a P,
+    replay: Replay,
+    page: Page<'b>,
+}
+
+impl<R, P: Print> Playing<'_, '_, R, P> {
+    // What the script ends with.
+    fn last(&mut self) -> io::Result<()> {
+        self.replay.last(self.rt, &mut self.page)
+    }
+}
+
+impl<R: Read, P: Print> Turn for Playing<'_, '_, R, P> {
+    // One read, and the trace of the lines that have ended then, written before the next read. (otlist, otdecode and otreplay each have such a
+    // turn; one over what takes a block would be no plainer.)
+    fn turn(&mut self) -> io::Result<bool> {
+        let mut block = [0u8; 4096];
+        let n = self.stdin.read(&mut block)?;
+        self.replay.lines(self.rt, &block[..n], &mut self.page)?;
+        self.page.flush(self.rt)?;
+        Ok(n != 0)
+    }
 }
 
 fn main(rt: HostRuntime) -> io::Result<()> {
-    let mut stdin = rt.stdin();
     let mut room = [0u8; 4096];
-    let mut page = Page::over(&mut room);
-    let mut replay = Replay {
+    let replay = Replay {
         desk: Desk::fresh(),
         room: [0; 300],
         held: Held::nothing(),
     };
-    input::while_more(|| play_some(&mut stdin, &rt, &mut replay, &mut page))?;
-    replay.last(&rt, &mut page)
+    let mut playing = Playing {
+        stdin: rt.stdin(),
+        rt: &rt,
+        replay,
+        page: Page::over(&mut room),
+    };
+    input::while_more(&mut playing)?;
+    playing.last()
 }

@@ -24,7 +24,7 @@ loop-sample-preserved g c =
     record {
       reader = reader_more s l.sample-index here r x ex ∙ l.invariant.reader;
       index = place_more s l.sample-index here l.self.index _ refl ∙ l.invariant.index;
-      lines = due_more _ _ _ _ _ _ _ _ l.invariant.lines c.line.ensures (rest_more s l.sample-index here r x ex l.self.index _ refl) c.in_ok-add_some.ensures.ok;
+      lines = due_more _ _ _ _ _ _ _ _ l.invariant.lines refl (rest_more s l.sample-index here r x ex l.self.index _ refl) c.in_ok-add_line.ensures.ok;
     }
 
 pub returns-clause-reader : goal.returns-clause-reader
@@ -46,7 +46,7 @@ returns-clause-lines g c =
     due_done _ _ _ _ c.loop-sample.invariant.lines
     (ap (λ (x : List ℕ). shown_in c.loop-sample.self.index (answers_of (reader_of c.loop-sample.self.reader) x)) over)
 
-pub returns-in_err-add_some-clause-err : goal.returns-in_err-add_some-clause-err
-returns-in_err-add_some-clause-err g c =
+pub returns-in_err-add_line-clause-err : goal.returns-in_err-add_line-clause-err
+returns-in_err-add_line-clause-err g c =
     MatchResult-from_err c.from_residual.result _ _ c.from_residual.ensures.0
-    (λ e. due_broken _ _ _ _ _ c.loop-sample.invariant.lines c.in_err-add_some.ensures.err)
+    (λ e. due_broken _ _ _ _ _ c.loop-sample.invariant.lines c.in_err-add_line.ensures.err)

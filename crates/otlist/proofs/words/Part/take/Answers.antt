@@ -19,8 +19,8 @@ loop-b-preserved g c =
     let n = c.push.ensures.count in record {
       word = word_more s l.b-index c.loop-b-test.true l.self.word _ w ∙ l.invariant.word;
       count = count_more s l.b-index c.loop-b-test.true l.self.count _ n ∙ l.invariant.count;
-      lines = due_more _ _ _ _ _ _ _ _ l.invariant.lines c.line.ensures
-          (rest_more s l.b-index c.loop-b-test.true l.self.word _ l.self.count _ w n) c.in_ok-add_some.ensures.ok;
+      lines = due_more _ _ _ _ _ _ _ _ l.invariant.lines refl
+          (rest_more s l.b-index c.loop-b-test.true l.self.word _ l.self.count _ w n) c.in_ok-add_line.ensures.ok;
     }
 
 pub returns-clause-word : goal.returns-clause-word
@@ -41,7 +41,7 @@ returns-clause-lines g c =
     let over : drop c.loop-b.b-index c.args.block.now ≡ [] = drop_of_length-le c.args.block.now c.loop-b-test.false in
     due_done _ _ _ _ c.loop-b.invariant.lines (ap (lines_in c.loop-b.self.word c.loop-b.self.count) over)
 
-pub returns-in_err-add_some-clause-err : goal.returns-in_err-add_some-clause-err
-returns-in_err-add_some-clause-err g c =
+pub returns-in_err-add_line-clause-err : goal.returns-in_err-add_line-clause-err
+returns-in_err-add_line-clause-err g c =
     MatchResult-from_err c.from_residual.result _ _ c.from_residual.ensures.0
-    (λ e. due_broken _ _ _ _ _ c.loop-b.invariant.lines c.in_err-add_some.ensures.err)
+    (λ e. due_broken _ _ _ _ _ c.loop-b.invariant.lines c.in_err-add_line.ensures.err)
