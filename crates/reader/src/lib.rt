@@ -155,7 +155,11 @@ fn between(m: Middle, active: bool) -> Step
     }
     let distance = m.distance + 1;
     if active == m.active {
-        still(Phase::Bits(Middle { distance, ..m }))
+        still(Phase::Bits(Middle {
+            distance,
+            active,
+            ..m
+        }))
     } else if distance >= Reader::MIDDLE_FROM {
         at_middle(m, distance, active)
     } else if m.other || !(Reader::OTHER_FROM..=Reader::OTHER_TO).contains(&distance) {
