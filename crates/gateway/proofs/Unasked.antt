@@ -3,7 +3,7 @@
 use Rattle.std.specs.Prelude.{Option, Some, None, is_some}
 use mathlib.Core.Path.{◌≡◌, refl, sym, ap, ◌∙◌}
 use mathlib.Core.Bool.{Bool, true, false, cond}
-use mathlib.Core.List.{List, [], ◌∷◌}
+use mathlib.Core.List.{[], ◌∷◌}
 use Prim.Native.Nat.{ℕ}
 use denote.Enum.Declared.{tag_of}
 use Rattle.word.proofs.Clash.{clash}
@@ -11,25 +11,28 @@ use types.Run.{OneOf, hit, miss}
 use Rattle.modbus.specs.declared.Reading.{Reading}
 use Rattle.modbus.specs.declared.Reading.TheVariants.{Silent, AtOnce, Accepted}
 use Rattle.modbus.specs.contracts.Reading as reading
+use Rattle.turns.specs.declared.Status.{Status}
 use Rattle.turns.specs.Line.{Line}
 use Rattle.modbus.specs.declared.Order.{Order}
 use Rattle.modbus.specs.Outcomes.{lacking_of}
 use Rattle.modbus.specs.Wrapping.{Wrapping}
 use Rattle.promises.specs.declared.Asking.{Asking}
 use Rattle.promises.specs.Box.{Gateway, Moved}
-use Rattle.promises.specs.Four.{place_of}
-use Rattle.line.specs.declared.Line as code_line
-use Rattle.line.specs.Reads.{as_line}
-use Rattle.rests.specs.Reads.{none}
-use Rattle.gateway.proofs.Index.{own_line}
-use lib.ListN.{get_or}
+use Rattle.promises.specs.Four.{line_of}
 use Rattle.promises.specs.Entries.{Does, gives, lack_of, asks_of, read_of, replied, taken_of}
 use Rattle.promises.proofs.Entries.Laws.{asks_lacking, asks_free, asks_busy}
-use Rattle.gateway.specs.Reads.{four_of, line_asked, able_by, able_of, at_once_of}
+use Rattle.gateway.specs.Reads.{line_asked, able_by, able_of, at_once_of}
 
 -- the box stays, and this is told and written
 abbrev pub said_at_once : Wrapping → ℕ → Gateway → Reading → Does Moved
 said_at_once W t g r = gives (record { gateway = g; told = (at_once_of W t r).result }) (at_once_of W t r).wrote
+
+-- what is no order stays what it is
+pub not_asked : (m : Status) (r : Reading) → OneOf (0 ∷ 1 ∷ []) (tag_of reading.the_type r) → r ≡ able_by m r
+unfolding able_by
+not_asked m (Silent n) k = refl
+not_asked m (AtOnce x) k = refl
+not_asked m (Accepted o) k = absurd (miss (0 ∷ 1 ∷ []) 2 tt k)
 
 -- of the variants that are no order, and of an order under way
 pub unaccepted : (r : Reading) → ((o : Order) → r ≡ Accepted o → ⊥) → OneOf (0 ∷ 1 ∷ []) (tag_of reading.the_type r)
@@ -41,11 +44,6 @@ pub free : (a : Option Asking) → is_some a ≡ false → a ≡ None
 free None e = refl
 free (Some p) e = clash cc
 
--- what the status of the line at place i makes of a reading is what that of the reading's own line does
-pub able_at : (l : List code_line.Line) (r s : Reading) (k i : ℕ) → k ≡ line_asked r → i ≡ place_of k → s ≡ able_by (as_line (get_or l i none)).status r →
-    s ≡ able_of (four_of l) r
-able_at l r s k i e at is = is ∙ ap (λ (x : Line). able_by x.status r) (own_line l i _ (at ∙ ap place_of e))
-
 module _ (W : Wrapping) (t : ℕ) (g : Gateway) where
   -- the reading r, and what `able_of` makes of it
   abbrev able : Reading → Reading
@@ -53,6 +51,10 @@ module _ (W : Wrapping) (t : ℕ) (g : Gateway) where
 
   abbrev asking : Order → Asking
   asking o = record { order = o; transaction = t }
+
+  -- it is what the status of the line x makes of it, where x is the order's own
+  pub able_at : (r : Reading) (x : Line) (s : Reading) → s ≡ able_by x.status r → x ≡ line_of g.lines (line_asked r) → s ≡ able r
+  able_at r x s e is = e ∙ ap (λ (l : Line). able_by l.status r) is
 
   under : (a : Option Asking) (r : Reading) → g.asked ≡ a → is_some a ≡ true → read_of W g t r ≡ said_at_once W t g (able r)
   unfolding read_of replied at_once_of able_by lack_of
