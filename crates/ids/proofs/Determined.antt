@@ -2,6 +2,8 @@
 -- Assumes nothing.
 use mathlib.Core.Path.{sym, ◌∙◌}
 use Rattle.word.proofs.One.{One}
+use Rattle.ids.proofs.Kind.number.Reads as number_reads
+use Rattle.ids.proofs.Kind.number.Kinds as number_kinds
 use Rattle.ids.proofs.KindFromU8.from.Reads as from_reads
 use Rattle.ids.proofs.KindFromU8.from.Kinds as from_kinds
 use Rattle.ids.proofs.kind_of.Reads as kind_of_reads
@@ -10,6 +12,9 @@ use Rattle.ids.proofs.readable.Reads as readable_reads
 use Rattle.ids.proofs.readable.Kinds as readable_kinds
 use Rattle.ids.proofs.writable.Reads as writable_reads
 use Rattle.ids.proofs.writable.Kinds as writable_kinds
+
+pub number_one : One number_kinds.ps number_kinds.r number_reads.Post
+number_one κs a u v x y p q = p ∙ sym q
 
 pub from_one : One from_kinds.ps from_kinds.r from_reads.Post
 from_one κs a u v x y p q = p ∙ sym q

@@ -124,6 +124,17 @@ module _ (id : ℕ) (h : id < 256) where
       go _ (none e) = e
       go _ (one i kind a p) = omega (arith, p.kind_is, p.access)
 
+  -- the number of the id's kind is the one that its row packs
+  pub number_kept : number_of (kind_of id) ≡ entry_of id % 8
+  unfolding entry_of kind_of
+  number_kept = go (rows_of id) here
+    where
+      go : (l : List Row) → Stands id (get_or table id 0) l → number_of (kind_from (packed l % 8)) ≡ packed l % 8
+      go _ (none e) = refl
+      go _ (one i kind a p) =
+          let same = ap number_of (kind_back kind a) in
+          omega (arith, same, number_low kind)
+
   -- "every listed id is at least one of the two", and an id not listed is neither
   pub rule : listed id ≡ (readable_of id || writable_of id)
   unfolding listed entry_of readable_of writable_of

@@ -2,7 +2,7 @@
 #![tactic(auto)]
 
 ghost use Rattle.std.specs.Prelude.{◌≡◌, ◌<◌, ◌/◌, ◌%◌, ◌==◌};
-ghost use Rattle.ids.specs.Ids.{kind_from, entry_of, kind_of, readable_of, writable_of};
+ghost use Rattle.ids.specs.Ids.{number_of, kind_from, entry_of, kind_of, readable_of, writable_of};
 ghost use Rattle.ids.specs.Names.{name_of};
 
 // What an id's 16 bits are. The numbers are those of the table below.
@@ -17,6 +17,13 @@ pub enum Kind {
 }
 
 impl Kind {
+    // As the table has it.
+    pub fn number(self) -> u8
+        ensures { result ≡ number_of self }
+    {
+        self as u8
+    }
+
     // As the listing prints it.
     pub fn name(self) -> &'static str
         ensures { result.now ≡ name_of self }
