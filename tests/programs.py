@@ -53,10 +53,14 @@ def called(program, start, data):
     return found
 
 
+# `neg eax` and then `and eax, imm32` of the polynomial, as the checksum takes it: its opcode, 0x25, reads like the byte before an address.
+TAKEN = b"\xf7\xd8\x25\x01\xa0\xff\xff"
+
+
 def named(start, data):
     """The addresses that code names by how far they are from the next instruction. What `and` takes of the polynomial reads alike, and is none."""
     for at in range(1, len(data) - 3):
-        if data[at - 1] & 0xC7 == 0x05 and data[at : at + 4] != b"\x01\xa0\xff\xff":
+        if data[at - 1] & 0xC7 == 0x05 and data[max(0, at - 3) : at + 4] != TAKEN:
             yield start + at + 4 + struct.unpack_from("<i", data, at)[0]
 
 
