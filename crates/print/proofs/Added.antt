@@ -105,10 +105,14 @@ all_append p (l ∷ a) b = all_append (added p l) a b
 pub then : (p q r : Page) (a b : List (List ℕ)) → q ≡ all_added p a → r ≡ all_added q b → r ≡ all_added p (a ++ b)
 then p q r a b eq er = er ∙ ap (λ (x : Page). all_added x b) eq ∙ sym (all_append p a b)
 
--- one line, as `add` leaves it: what its text says
-pub one_line : (p q : Page) (t : Text) (l : List ℕ) → q ≡ added p (says t) → t ≡ puts empty_text l → q ≡ all_added p (says (puts empty_text l) ∷ [])
+-- one line, as `add` leaves it: what its text says, and no more is asked of the text
+pub one_line : (p q : Page) (t : Text) (l : List ℕ) → q ≡ added p (says t) → says t ≡ says (puts empty_text l) → q ≡ all_added p (says (puts empty_text l) ∷ [])
 unfolding all_added
-one_line p q t l eq et = eq ∙ ap (λ (x : Text). added p (says x)) et
+one_line p q t l eq et = eq ∙ ap (added p) et
+
+-- the same where the text is the line itself, with the bytes behind it
+pub one_put : (p q : Page) (t : Text) (l : List ℕ) → q ≡ added p (says t) → t ≡ puts empty_text l → q ≡ all_added p (says (puts empty_text l) ∷ [])
+one_put p q t l eq et = one_line p q t l eq (ap says et)
 
 -- a block byte by byte: what is left of it from a place on
 pub left_from : (s : List ℕ) (i : ℕ) → i < length s → drop i s ≡ get_or s i 0 ∷ drop (i + 1) s

@@ -1,7 +1,7 @@
 -- `otreplay::paper::ticked` meets its contract: the lines one after the other.
 -- Assumes nothing.
 use Rattle.std.proofs.lemmas.Result.{on_ok_weaker, on_err_weaker, MatchResult-from_err}
-use Rattle.print.proofs.Added.{then, one_line}
+use Rattle.print.proofs.Added.{then, one_put}
 use Rattle.print.proofs.Broken.{at_first, later}
 use Rattle.otreplay.specs.Printed.{tick_trace}
 use Rattle.otreplay.proofs.paper.ticked.Goals as goal
@@ -14,7 +14,7 @@ returns-clause-ok g c =
     (λ p. then _ _ _ _ _ c.in_ok-add_some.ensures.ok
     (then _ _ _ _ _ c.in_ok-add_some-2.ensures.ok
     (then _ _ _ _ _ c.in_ok-add_some-3.ensures.ok
-    (then _ _ _ _ _ c.in_ok-add_some-4.ensures.ok (one_line _ _ _ _ p c.told.ensures)))))
+    (then _ _ _ _ _ c.in_ok-add_some-4.ensures.ok (one_put _ _ _ _ p c.told.ensures)))))
     c.add.ensures.ok)
 
 pub returns-in_err-add_some-clause-err : goal.returns-in_err-add_some-clause-err
